@@ -21,14 +21,14 @@ SOLVED = [("empty-8-8", 1), ("empty-8-8", 4), ("empty-8-8", 6), ("random-32-32",
 LIMIT = "60"
 
 # Cases of which each line is replaced by each of these lines.
-CASES = ["check-crossing", "check-niche-in-version-two"]
+CASES = ["check-crossing", "check-niche-in-version-two", "check-crossing-by-a-lemma-by-cases"]
 LINES = {
     "plan": ["mapf-plan 1", "mapf-plan 2", "mapf-plan 3", "agents 0", "agents 2", "agents 3", "agents 201", "cost 4",
              "cost 5", "cost 1999999801", "impossible", "limit 3", "limit 3 bound 4", "limit ticks bound 4",
              "limit 100001 bound 4", "limit 3 bound 1999999801", "path 0 0 0,0", "path 0 0", "path 7 0", "path 7 0 0,0",
              "path 0 10000000 0,0", "path 0 1 0,0 0,0", "path 0 1 0,0 0,9", "path 0 1 9,0 0,0", "path 1 0 1,0 ",
              "path 1 0  1,0", "path 1 1 0,1 1,1", "end", "end ", ""],
-    "cert": ["mapf-cert 1", "mapf-cert 2", "mapf-cert 4", "agents 0", "agents 2", "agents 3", "agents 201",
+    "cert": ["mapf-cert 1", "mapf-cert 2", "mapf-cert 3", "mapf-cert 4", "agents 0", "agents 2", "agents 3", "agents 201",
              "claim cost 4", "claim cost 5", "claim cost 1999999801", "claim impossible", "claim bound 4",
              "vertex 0 1 0,0 0", "vertex 0 1 0,0 0 0", "vertex 0 0 0,0 1 0", "vertex 1 0 9,9 1 0",
              "vertex 0 1 0,0 1000000", "swap 0 1 0,0 0,0 0 0", "swap 0 1 0,0 1,0 0 0", "swap 0 1 0,0 2,0 0 0",
@@ -38,9 +38,6 @@ LINES = {
              "at 1,0 0 2", "at 0,1 0 3", "at 1,0 0 inf", "at 9,0 0 9", "at 0,0 10000000 1", "at 0,0 0 10000000", "end",
              "end ", "", "x" * 64, "x" * 65],
 }
-
-# mapf doesn't read certificates of version 3, so what recheck says of them isn't compared: recheck3_tests tries it.
-UNREAD = b"mapf-cert 3\n"
 
 EDITS = 4000
 SEED = 28
@@ -151,8 +148,6 @@ def edits_that_differ(recheck, bases, folder):
         text = (base / name).read_bytes()
         for _ in range(draw.choice((1, 1, 1, 2))):
             text = edited(text, draw)
-        if text.startswith(UNREAD):
-            continue
         place.write_bytes(text)
         faults = difference(recheck, agents, base, {name: str(place)})
         if faults:

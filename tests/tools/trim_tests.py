@@ -173,6 +173,7 @@ def calls():
     case, bad = CASES / "check-bound-lowered", CASES / "check-label-too-high"
     given = [case / "map", case / "scen", "2", case / "plan", case / "cert"]
     wanted = with_tree((case / "cert").read_text(), LEFT["check-bound-lowered"])
+    newer = TESTS / "version3" / "never-in-a-winding-corridor"
     usage = "usage: "
     asked = [
         ("standard output", given, 0, wanted, ""),
@@ -183,6 +184,8 @@ def calls():
         ("no certificate", [*given[:4], "none"], 2, "", "none: No such file or directory"),
         ("a certificate that is refused", [bad / "map", bad / "scen", "2", bad / "plan", bad / "cert"], 2, "",
          "recheck says 'refused C7 7': docs/FORMATS.md tells what it means"),
+        ("a certificate of version 3", [newer / "map", newer / "scen", "3", newer / "plan", newer / "cert"], 2, "",
+         "this certificate is of version 3, and only those of versions 1 and 2 can be cut"),
         ("no map", [case / "scen", *given[1:]], 2, "", "recheck says 'F1 M1': docs/FORMATS.md tells what it means"),
         ("no agents", [*given[:2], "0", *given[3:]], 2, "", "number from 1 to 200"),
     ]

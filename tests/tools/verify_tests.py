@@ -231,7 +231,7 @@ def tests(tally):
     tally.add("verify, a folder that isn't empty", folder_kept())
     for name in FORMATS:
         tally.add(f"verify, pipes in place of files, {name}", piped(FORMATS[name]["cheapest"]))
-    for title, lines, asked in in_time() + by_cbs():
+    for title, lines, asked in in_time() + by_cbs() + by_version_three():
         tally.add(f"verify, {title}", faults_behind(lines, asked))
 
 
@@ -397,6 +397,15 @@ def by_cbs():
         ("a bound below the cost, by cbs", BY_CBS,
          Asked("", WAITS, 4, "unknown: 10, no valid plan costs less than 9 (limit of 1 splits)\n", **by_one)),
     ]
+
+
+def by_version_three():
+    """A search without splits, whose certificate is put into version 3."""
+    solves = f'"{os.environ["MAPF"]}" "$@"; status=$?'
+    changes = r"""sed -i 's/^mapf-cert 2/mapf-cert 3/; s/^leaf 0/prices 0\nlemmas 0\nleaf 0 0 -/' "$9"; exit $status"""
+    return [("a bound of version 3 below the cost", f'[ "$1" != solve ] || {{ {solves}; {changes}; }}\n',
+             Asked("", PATHS["cheapest"], 4, "unknown: 5, no valid plan costs less than 4 (limit of 0 splits)\n",
+                   more=["--limit", "0"], noted="prints 'within 4 5': "))]
 
 
 def by_options():

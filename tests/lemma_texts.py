@@ -1,4 +1,4 @@
-"""Certificates of version 3 by the rule that decides each, written by hand, for recheck3_tests.
+"""Certificates of version 3 by the rule that decides each, written by hand. lemma_vectors makes vectors of them.
 
 PROBLEMS has maps with the starts and goals of agents. JUDGED_ALONE has for each kind of rule, and each problem, what a
 text shows, and what follows its claim up to the last tree, with ` / ` between lines. The lines `prices N`, `lemmas N`
@@ -59,6 +59,9 @@ ENTRIES = {
         "the last of several constraints on the goal": "one 0 2 1 - / not 0 2,1 5 / not 0 2,1 2 / at 2,1 4 1",
         "clear forbids rest before its tick": "one 0 1 1 - / clear 0 2,1 9 / at 2,1 0 1",
         "clear of another cell forbids no rest": "one 0 1 1 - / clear 0 1,1 9 / !C7 at 2,1 0 1",
+        "entries of a tick by rows": "one 0 2 2 - / not 0 2,0 3 / not 0 0,1 3 / at 2,0 3 inf / at 0,1 3 inf",
+        "entries of a tick whose rows fall":
+            "one 0 2 2 - / not 0 2,0 3 / not 0 0,1 3 / at 0,1 3 inf / !K1 at 2,0 3 inf",
         "constraints twice": "one 0 2 1 - / not 0 1,1 1 / not 0 1,1 1 / at 0,1 0 3",
         "entries of both agents, of the second a wrong one":
             "two 0 1 2 1 1 0 - / not 0 1,1 1 / not 1 1,1 1 / at 0,1 0 3 / !C7 at 1,0 0 4",

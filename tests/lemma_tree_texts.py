@@ -1,4 +1,4 @@
-"""Trees of certificates of version 3, written by hand as those in recheck3_texts.py, and shapes and ranges of lines.
+"""Trees of certificates of version 3, written by hand as those in lemma_texts.py, and shapes and ranges of lines.
 
 JUDGED_IN_TREES is as JUDGED_ALONE there, with whole trees. A text may also begin with `plan` and another answer than
 the one that fits its claim.
