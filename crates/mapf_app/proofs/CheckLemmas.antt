@@ -1,12 +1,11 @@
 -- From what is read to what is judged.
-use Rattle.std.proofs.Common.{◌≡◌, List, ℕ, Some, Option, IfSome, length, sym, subst}
+use Rattle.std.proofs.Common.{◌≡◌, List, ℕ, None, Some, Option, IfSome, length, refl, sym, subst}
 use Rattle.std.specs.Option.{IsSome}
 use Rattle.mapf_app.specs.Checked.{IsRefusalOf, HasGoodPlan}
 use Rattle.mapf_app.specs.Headline.{JudgesTruly, IsDueVerdict}
 use Rattle.mapf_app.specs.Problems.{IsPosed, SpellsProblem}
 use Rattle.mapf_app.proofs.InputLemmas.{text_is, told}
 use Rattle.mapf_certificate.specs.Plans.{SpellsPlan}
-use Rattle.mapf_checker.proofs.CertLemmas.{if_known}
 use Rattle.mapf_checker.specs.Refusals.{HasRefusal}
 use Rattle.mapf_checker.specs.Verdict.{IsTrueText, IsGoodPlan, AreAccepted}
 use Rattle.mapf_checker.specs.Faults.{IfRefused, IsNoRefusal}
@@ -16,6 +15,11 @@ use Rattle.mapf_checker.specs.declared.fault.FromFault.TheVariants.{Refused}
 use Rattle.mapf_checker.specs.declared.fault.Verdict.{Verdict}
 use Rattle.mapf_model.specs.Plan.{Instance}
 use Rattle.mapf_model.specs.declared.item.Claim.{Claim}
+
+-- a property of a known value
+pub if_known : {X : Type 0} (o : Option X) (P : X → Type 0) → ((x : X) → o ≡ Some x → P x) → IfSome o P
+if_known None P holds = tt
+if_known (Some x) P holds = holds x refl
 
 -- a refusal is one
 pub is_refusal : (fault : FromFault) (refusal : CheckFault) → fault ≡ Refused refusal → IsNoRefusal fault → ⊥

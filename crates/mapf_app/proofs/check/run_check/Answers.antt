@@ -1,7 +1,6 @@
 use Rattle.std.proofs.Common.{rules, ◌≤◌, ⊎_elim, length}
 use Rattle.mapf_app.proofs.InputLemmas.{read_as}
-use Rattle.mapf_app.proofs.CheckLemmas.{judges, due_here, refusal_of, none_good, is_refusal, refusal_says}
-use Rattle.mapf_checker.proofs.CertLemmas.{if_known}
+use Rattle.mapf_app.proofs.CheckLemmas.{if_known, judges, due_here, refusal_of, none_good, is_refusal, refusal_says}
 use Rattle.mapf_checker.specs.Refusals.{HasRefusal}
 use Rattle.mapf_model.specs.Limits.{most_cert_bytes}
 use Rattle.mapf_app.proofs.check.run_check.Goals as goal
