@@ -24,7 +24,8 @@ use Rattle.mapf_lemma_texts.specs.Listing.{IsListed, FitsAnyhow}
 use Rattle.mapf_lemma_texts.specs.Parts.{IsPart}
 use Rattle.mapf_lemma_texts.specs.Ranges.{most_listed}
 use Rattle.mapf_lemma_texts.specs.WholeTexts.{split_part, tree_parts}
-use Rattle.mapf_lemma_convert.specs.Conversion.{NumberedLemma, block_count, cases_from, in_force, numbered, split_on}
+use Rattle.mapf_lemma_convert.specs.declared.node_walk.NumberedLemma.{NumberedLemma}
+use Rattle.mapf_lemma_convert.specs.Conversion.{block_count, cases_from, in_force, numbered, split_on}
 use Rattle.mapf_lemma_convert.proofs.InForceLemmas.{AreApart, has_no_block, in_force_apart, numbered_is}
 use Rattle.mapf_lemma_convert.proofs.ListLemmas.{all_of_contained, contained_of_map, contained_of_filter, pairs_append, pairs_map}
 

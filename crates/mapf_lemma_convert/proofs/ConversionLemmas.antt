@@ -24,7 +24,8 @@ use Rattle.mapf_lemmas.specs.Groups.{Scope}
 use Rattle.mapf_lemmas.specs.Lemmas.{CertificateShows, Lemma, LemmaShows, LemmasShow, all_agents, scope_of, target_of}
 use Rattle.mapf_lemmas.specs.Prices.{no_list}
 use Rattle.mapf_lemmas.specs.Statements.{Statement}
-use Rattle.mapf_lemma_convert.specs.Conversion.{NumberedLemma, block_count, cases_from, cases_of, in_force, lemma_of, lemmas_from, lemmas_of, path_constraint, path_constraints, split_on}
+use Rattle.mapf_lemma_convert.specs.declared.node_walk.NumberedLemma.{NumberedLemma}
+use Rattle.mapf_lemma_convert.specs.Conversion.{block_count, cases_from, cases_of, in_force, lemma_of, lemmas_from, lemmas_of, path_constraint, path_constraints, split_on}
 use Rattle.mapf_lemma_convert.proofs.BarLemmas.{AllBars, bar_kept, more_bars, lemma_count}
 use Rattle.mapf_lemma_convert.proofs.InForceLemmas.{AreInForce, block_is_found, in_force_here, in_force_under}
 use Rattle.mapf_lemma_convert.proofs.LeafLemmas.{leaf_shows}

@@ -12,7 +12,8 @@ use Rattle.mapf_model.specs.Labels.{Entries, entries_of}
 use Rattle.mapf_model.specs.Tree.{AreOfDifferentAgents, block_of, entries_or, with_blocks}
 use Rattle.mapf_model.proofs.ContainsLemmas.{Contains-none, Contains-cons_new, Contains-cons_old, Contains-cons_cases}
 use Rattle.mapf_lemmas.specs.Lemmas.{Lemma, One}
-use Rattle.mapf_lemma_convert.specs.Conversion.{NumberedLemma, path_constraints, lemma_of, numbered, in_force}
+use Rattle.mapf_lemma_convert.specs.declared.node_walk.NumberedLemma.{NumberedLemma}
+use Rattle.mapf_lemma_convert.specs.Conversion.{path_constraints, lemma_of, numbered, in_force}
 use Rattle.mapf_lemma_convert.proofs.ListLemmas.{all_of_contained, contains_filter, contained_of_filter, pairs_append}
 
 -- the numbered lemma has these constraints, which stand here, and these entries of its agent

@@ -1,5 +1,5 @@
 -- A leaf that uses the lemmas in force shows what the labels of the starts show.
-use Rattle.std.proofs.Common.{◌≡◌, ◌≢◌, ◌⊎◌, ℕ, ◌-◌, ◌<◌, List, [], ◌∷◌, Option, Some, None, All, Contains, length, map, sum_by, slice_get, refl, sym, ◌∙◌, ap, subst, inl, inr, ⊎_elim, eqb-true, arith}
+use Rattle.std.proofs.Common.{◌≡◌, ◌≢◌, ℕ, ◌<◌, List, [], ◌∷◌, Option, Some, None, All, Contains, length, map, sum_by, slice_get, refl, sym, ◌∙◌, ap, subst, inl, inr, ⊎_elim, eqb-true, arith}
 use Rattle.std.specs.Prelude.{◌==◌}
 use Rattle.std.proofs.lemmas.Bool.{cond_both}
 use Rattle.std.proofs.lemmas.List.Elements.{All-contains}
@@ -25,7 +25,8 @@ use Rattle.mapf_lemmas.specs.Prices.{PriceList, no_list, cell_price}
 use Rattle.mapf_lemmas.specs.SingleLabels.{IsSingleLabel}
 use Rattle.mapf_lemmas.specs.Statements.{Statement, Meets, IsMet, constraints_of}
 use Rattle.mapf_lemmas.proofs.SmallLists.{all_of_one}
-use Rattle.mapf_lemma_convert.specs.Conversion.{NumberedLemma, path_constraint, path_constraints}
+use Rattle.mapf_lemma_convert.specs.declared.node_walk.NumberedLemma.{NumberedLemma}
+use Rattle.mapf_lemma_convert.specs.Conversion.{path_constraint, path_constraints}
 use Rattle.mapf_lemma_convert.proofs.InForceLemmas.{IsInForce, AreInForce, AreApart, IsNotOf, of_agent}
 use Rattle.mapf_lemma_convert.proofs.ListLemmas.{all_of_contained, contains_map, contained_of_map, pairs_map}
 use Rattle.mapf_lemma_convert.proofs.SoundLemmas.{single_is}

@@ -7,4 +7,9 @@ mod LeafLemmas
 mod ConversionLemmas
 mod RangeLemmas
 mod CaseRanges
+mod PartLemmas
 mod TextLemmas
+mod WalkSteps
+mod WalkLemmas
+mod WrittenLemmas
+mod ResultLemmas

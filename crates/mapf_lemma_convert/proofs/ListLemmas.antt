@@ -1,5 +1,5 @@
 -- Lists that are mapped, filtered or joined.
-use Rattle.std.proofs.Common.{◌≡◌, ◌⊎◌, ℕ, zero, suc, ◌+◌, Bool, true, List, [], ◌∷◌, ◌++◌, Some, All, AllPairs, Contains, length, map, filter, slice_get, slice_index_or, ◌∙◌, ap, subst, ⊎_elim, zero-add, suc-add, arith}
+use Rattle.std.proofs.Common.{◌≡◌, ℕ, zero, suc, ◌+◌, Bool, true, List, [], ◌∷◌, ◌++◌, Some, All, AllPairs, Contains, length, map, filter, slice_get, slice_index_or, ◌∙◌, ap, subst, ⊎_elim, zero-add, suc-add, arith}
 use Rattle.std.proofs.lemmas.Bool.{cond_both}
 use Rattle.std.proofs.lemmas.List.Elements.{All-append, All-contains, All-map, Contains-append_left, Contains-append_right, Contains-get_or}
 use Rattle.std.proofs.lemmas.List.Kept.{AllPairs-cons}

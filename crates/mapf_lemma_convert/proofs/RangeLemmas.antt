@@ -1,5 +1,5 @@
 -- The lemmas of a tree are in the ranges of version 3.
-use Rattle.std.proofs.Common.{◌≡◌, ℕ, ◌+◌, ◌*◌, ◌<◌, ◌≤◌, List, [], ◌∷◌, ◌++◌, None, All, map, slice_index_or, refl, inl, inr, ⊎_elim, arith}
+use Rattle.std.proofs.Common.{◌≡◌, ℕ, ◌*◌, ◌<◌, ◌≤◌, List, [], ◌∷◌, ◌++◌, None, All, map, slice_index_or, refl, inl, inr, ⊎_elim, arith}
 use Rattle.std.proofs.lemmas.List.{length-map}
 use Rattle.std.proofs.lemmas.List.Elements.{All-append, All-cons, All-head, All-map, All-nil, All-tail}
 use Rattle.mapf_model.specs.declared.bar.Bar.{Bar}
@@ -26,6 +26,7 @@ use Rattle.mapf_lemma_texts.specs.Parts.{AreConstraints, AreEntries, IsPart}
 use Rattle.mapf_lemma_texts.specs.Ranges.{greatest_label, IsAmountTo, IsConstraintInRange, IsOneTo}
 use Rattle.mapf_lemma_texts.specs.WholeTexts.{constraint_of, lemma_parts}
 use Rattle.mapf_lemma_convert.specs.Conversion.{BlockFits, NodeFits, lemma_of, lemmas_from, path_constraint, path_constraints}
+use Rattle.mapf_lemma_convert.specs.NodeWalk.{PartFits}
 use Rattle.mapf_lemma_convert.proofs.BarLemmas.{AllBars, more_bars}
 use Rattle.mapf_lemma_convert.proofs.ListLemmas.{all_of_contained, all_parts}
 
@@ -38,7 +39,7 @@ abbrev pub sizes_on : (grid : GridMap) (agents : ℕ) → (1 ≤ grid.width) × 
 sizes_on grid agents narrow low few = record { width = grid.width; height = grid.height; agents = agents; lists = 0; narrow = narrow; low = low; few = few; listed = omega arith }
 
 -- the part of the lemma of a block
-abbrev one_part : (ℕ → List Bar) → LabelBlock → Part
+abbrev pub one_part : (ℕ → List Bar) → LabelBlock → Part
 one_part bars block = parts.One (record {
   agent = block.agent;
   constraints = map (constraint_of block.agent) (path_constraints (bars block.agent));
@@ -106,28 +107,27 @@ module _ (grid : GridMap) (agents : ℕ) (sizes : LineSizes) (cells_are : cells_
   lemmas_in (Leaf blocks) context all range fit = blocks_in context blocks all range fit
   lemmas_in (Clash i j) context all range fit = All-nil IsLemmaIn
 
--- lemmas in range are of blocks that fit
-module _ (sizes : LineSizes) where
-  block_fits : (context : NodeContext) (block : LabelBlock) → All (IsPart sizes) (lemma_parts (lemma_of context.bars block)) → BlockFits context block
-  block_fits context block all =
-      let part = All-head (IsPart sizes) (one_part context.bars block) [] all in
-      let one = length-map (path_constraints (context.bars block.agent)) (constraint_of block.agent) in
-      let two = length-map (context.bars block.agent) path_constraint in
-      let short = part.0.1 in
-      (omega (arith, one, two, short), part.0.2)
+-- lemmas that fit are of blocks that fit
+block_fits : (context : NodeContext) (block : LabelBlock) → All PartFits (lemma_parts (lemma_of context.bars block)) → BlockFits context block
+block_fits context block all =
+    let part = All-head PartFits (one_part context.bars block) [] all in
+    let one = length-map (path_constraints (context.bars block.agent)) (constraint_of block.agent) in
+    let two = length-map (context.bars block.agent) path_constraint in
+    let short = part.0 in
+    (omega (arith, one, two, short), part.1)
 
-  blocks_fit : (context : NodeContext) (blocks : List LabelBlock) → All (λ lemma. All (IsPart sizes) (lemma_parts lemma)) (map (lemma_of context.bars) blocks) → All (BlockFits context) blocks
-  blocks_fit context [] all = All-nil (BlockFits context)
-  blocks_fit context (block ∷ blocks) all = All-cons (BlockFits context) block blocks
-      (block_fits context block (All-head (λ lemma. All (IsPart sizes) (lemma_parts lemma)) (lemma_of context.bars block) (map (lemma_of context.bars) blocks) all))
-      (blocks_fit context blocks (All-tail (λ lemma. All (IsPart sizes) (lemma_parts lemma)) (lemma_of context.bars block) (map (lemma_of context.bars) blocks) all))
+blocks_fit : (context : NodeContext) (blocks : List LabelBlock) → All (λ lemma. All PartFits (lemma_parts lemma)) (map (lemma_of context.bars) blocks) → All (BlockFits context) blocks
+blocks_fit context [] all = All-nil (BlockFits context)
+blocks_fit context (block ∷ blocks) all = All-cons (BlockFits context) block blocks
+    (block_fits context block (All-head (λ lemma. All PartFits (lemma_parts lemma)) (lemma_of context.bars block) (map (lemma_of context.bars) blocks) all))
+    (blocks_fit context blocks (All-tail (λ lemma. All PartFits (lemma_parts lemma)) (lemma_of context.bars block) (map (lemma_of context.bars) blocks) all))
 
-  pub tree_fits : (tree : ConstraintTree) (context : NodeContext) → All (λ lemma. All (IsPart sizes) (lemma_parts lemma)) (lemmas_from context.bars tree) → AtEachNode NodeFits context tree
-  tree_fits (Split conflict blocks left right) context all =
-      let on_left = lemmas_from (with_constraint context.bars (left_constraint conflict)) left in
-      let on_right = lemmas_from (with_constraint context.bars (right_constraint conflict)) right in
-      let (here, below) = all_parts (λ lemma. All (IsPart sizes) (lemma_parts lemma)) (map (lemma_of context.bars) blocks) (on_left ++ on_right) all in
-      let (first, second) = all_parts (λ lemma. All (IsPart sizes) (lemma_parts lemma)) on_left on_right below in
-      (blocks_fit context blocks here, tree_fits left (left_child_context context conflict blocks) first, tree_fits right (right_child_context context conflict blocks) second)
-  tree_fits (Leaf blocks) context all = blocks_fit context blocks all
-  tree_fits (Clash i j) context all = tt
+pub tree_fits : (tree : ConstraintTree) (context : NodeContext) → All (λ lemma. All PartFits (lemma_parts lemma)) (lemmas_from context.bars tree) → AtEachNode NodeFits context tree
+tree_fits (Split conflict blocks left right) context all =
+    let on_left = lemmas_from (with_constraint context.bars (left_constraint conflict)) left in
+    let on_right = lemmas_from (with_constraint context.bars (right_constraint conflict)) right in
+    let (here, below) = all_parts (λ lemma. All PartFits (lemma_parts lemma)) (map (lemma_of context.bars) blocks) (on_left ++ on_right) all in
+    let (first, second) = all_parts (λ lemma. All PartFits (lemma_parts lemma)) on_left on_right below in
+    (blocks_fit context blocks here, tree_fits left (left_child_context context conflict blocks) first, tree_fits right (right_child_context context conflict blocks) second)
+tree_fits (Leaf blocks) context all = blocks_fit context blocks all
+tree_fits (Clash i j) context all = tt

@@ -13,6 +13,8 @@ use Rattle.mapf_model.specs.Printed.{IsClaimInRange, IsTreeInRange}
 use Rattle.mapf_model.specs.Tree.{ConstraintTree, root}
 use Rattle.mapf_model.proofs.ContainsLemmas.{Contains-none}
 use Rattle.mapf_lemma_convert.specs.Conversion.{CanBeConverted, cases_of, converted_text, lemmas_of}
+use Rattle.mapf_lemma_convert.specs.NodeWalk.{PartFits}
+use Rattle.mapf_lemma_convert.proofs.PartLemmas.{part_fits}
 use Rattle.mapf_lemma_convert.proofs.BarLemmas.{lemma_count}
 use Rattle.mapf_lemma_convert.proofs.CaseRanges.{cases_in, none_numbered}
 use Rattle.mapf_lemma_convert.proofs.ListLemmas.{all_parts}
@@ -22,7 +24,7 @@ all_flat : {X Y : Type 0} (P : Y → Type 0) (f : X → List Y) (xs : List X) �
 all_flat P f [] all = All-nil P
 all_flat P f (x ∷ xs) all = All-append P (f x) (flat_map f xs) (All-head (λ y. All P (f y)) x xs all) (all_flat P f xs (All-tail (λ y. All P (f y)) x xs all))
 
-all_of_flat : {X Y : Type 0} (P : Y → Type 0) (f : X → List Y) (xs : List X) → All P (flat_map f xs) → All (λ x. All P (f x)) xs
+pub all_of_flat : {X Y : Type 0} (P : Y → Type 0) (f : X → List Y) (xs : List X) → All P (flat_map f xs) → All (λ x. All P (f x)) xs
 all_of_flat P f [] all = All-nil (λ x. All P (f x))
 all_of_flat P f (x ∷ xs) all =
     let (here, later) = all_parts P (f x) (flat_map f xs) all in
@@ -58,4 +60,4 @@ module _ (grid : GridMap) (agents : ℕ) (claim : Claim) (tree : ConstraintTree)
       let (lemmas, cases) = all_parts (IsPart spells.sizes) (flat_map lemma_parts (lemmas_of tree)) (tree_parts (cases_of tree)) rest in
       let lemmas_long = lemma_count root.bars tree in
       let few = lemmas_part.0 in
-      (tree_fits spells.sizes tree root (all_of_flat (IsPart spells.sizes) lemma_parts (lemmas_of tree) lemmas), omega (arith, few, lemmas_long))
+      (tree_fits tree root (all_of_flat PartFits lemma_parts (lemmas_of tree) (λ k d inside. part_fits spells.sizes _ (lemmas k d inside))), omega (arith, few, lemmas_long))

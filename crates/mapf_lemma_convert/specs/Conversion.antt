@@ -17,6 +17,7 @@ use Rattle.mapf_lemmas.specs.declared.constraint.PathConstraint.{PathConstraint}
 use Rattle.mapf_lemmas.specs.declared.constraint.PathConstraint.TheVariants.{NotAt, NotMove}
 use Rattle.mapf_lemmas.specs.declared.split.Split as split
 use Rattle.mapf_lemmas.specs.declared.split.Split.TheVariants as splits
+use Rattle.mapf_lemma_convert.specs.declared.node_walk.NumberedLemma.{NumberedLemma}
 use Rattle.mapf_lemma_texts.specs.declared.line.LemmaLine.TheVariants as lines
 use Rattle.mapf_lemma_texts.specs.Lines.{line_text}
 use Rattle.mapf_lemma_texts.specs.PartReading.{header_text}
@@ -61,11 +62,6 @@ abbrev pub block_count : ConstraintTree → ℕ
 block_count (Split conflict blocks left right) = length blocks + (block_count left + block_count right)
 block_count (Leaf blocks) = length blocks
 block_count (Clash i j) = 0
-
--- the number of the lemma of an agent's block
-pub record NumberedLemma : Type 0 where
-  pub agent : ℕ
-  pub number : ℕ
 
 -- the lemmas of blocks, numbered from here on
 abbrev pub numbered : ℕ → List LabelBlock → List NumberedLemma

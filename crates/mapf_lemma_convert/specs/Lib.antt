@@ -1,2 +1,4 @@
 pub mod Conversion
 pub mod Laws
+pub mod NodeWalk
+pub mod Results
