@@ -1,6 +1,6 @@
 """Certificates of version 3 that a search wouldn't write: well formed, true, and long or lopsided in one way each."""
 
-from dataclasses import dataclass
+from dataclasses import dataclass, replace
 from itertools import combinations
 
 
@@ -15,6 +15,8 @@ class Made:
     paths: list[list[tuple[int, int]]]
     parts: bytes
     is_possible: bool = True
+    # A use counts as the bytes of its lemma's constraints: how many bytes all uses count.
+    used_bytes: int = 0
 
     @property
     def agents(self):
@@ -191,7 +193,8 @@ def uses_under_many_constraints(count):
     constraints = bars(0, 1, 1, 1000)
     tree = tree_of([b"leaf 1 0 -\nuse 0\n"] * count)
     lemmas = [one(0, constraints), cases([0], 1, tree, constraints)]
-    return crowd("uses under many constraints", 2, parts_of(lemmas, LEAF))
+    made = crowd("uses under many constraints", 2, parts_of(lemmas, LEAF))
+    return replace(made, used_bytes=count * len(b"".join(constraints)))
 
 
 def uses_of_what_another_agent_clears(count):
@@ -202,7 +205,8 @@ def uses_of_what_another_agent_clears(count):
     constraints = [b"clear 0 1,0 %d\n" % tick for tick in range(500)] + bars(0, 1, 0, 500)
     tree = b"cost %d 0\n" % (AGENTS - 1) + tree_of([b"leaf 1 0 -\nuse 0\n"] * count) + LEAF
     parts = parts_of([one(0, constraints), cases([0], 1, tree)], b"clash 0 1\n")
-    return Made("uses of what another agent clears", 2, AGENTS, ends, parts, False)
+    used_bytes = count * len(b"".join(constraints))
+    return Made("uses of what another agent clears", 2, AGENTS, ends, parts, False, used_bytes)
 
 
 def splits_on_a_cost(count):
