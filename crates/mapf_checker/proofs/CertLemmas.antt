@@ -16,6 +16,7 @@ use Rattle.mapf_certificate.specs.Reading.{Reading, grid_at}
 use Rattle.mapf_certificate.specs.Window.{Window, Fails, IsNoTextFault}
 use Rattle.mapf_certificate.proofs.CertTexts.{AreSized, spells_from_text, text_from_spells}
 use Rattle.mapf_certificate.proofs.Windows.{Window-known, ComesWithin-after, Exceeds-after, refuses_within}
+use Rattle.mapf_lemma_checker.proofs.WholeLemmas.{if_made}
 use Rattle.mapf_checker.specs.declared.fault.CheckFault.{CheckFault}
 use Rattle.mapf_checker.specs.declared.fault.CheckFault.TheVariants.{C2, C3, C4, C6, C7, C8, C9}
 use Rattle.mapf_checker.specs.declared.fault.FromFault.{FromFault}
@@ -58,11 +59,6 @@ stops_heading problem claim had left failed start IsText (Text texts.Memory) fai
 stops_heading problem claim had left failed start IsText (Text fault) fails none = (fails.0, refuses_within had left start.buffer IsText fails.1, (λ e. cc, none))
 stops_heading problem claim had left failed start IsText fault fails none = fails
 
--- a property of what is made of a known value
-pub if_known : {X Y : Type 0} (o : Option X) (f : X → Y) (P : Y → Type 0) → ((x : X) → o ≡ Some x → P (f x)) → IfSome (option_map f o) P
-if_known None f P holds = tt
-if_known (Some x) f P holds = holds x refl
-
 -- a weaker statement about the same error
 pub stops_as : {P Q : CheckFault → Type 0} (had left : Option (List ℕ)) (failed : Bool) (buffer : Buffered) (fault : FromFault) → ((refusal : CheckFault) → P refusal → Q refusal) → IsOfChecking had left failed buffer P fault → IsOfChecking had left failed buffer Q fault
 stops_as had left failed buffer (from.Refused refusal) f stops = (stops.0, stops.1, f refusal stops.2)
@@ -79,9 +75,9 @@ stops_after had mid left failed old now taken from.Memory window f stops = (stop
 module _ (problem : Instance) (claim : Claim) (had : Option (List ℕ)) (start : Reading) (opened : IsOpened problem start) where
   -- a refusal of the header is one of the certificate
   pub header_refusal : (refusal : CheckFault) → HasHeaderRefusal problem claim had start refusal → HasTreeCertRefusal problem claim (option_map (λ bytes. start.buffer.bytes ++ bytes) had) refusal
-  header_refusal (C2 fault) (other, none) = (other, if_known had (λ bytes. start.buffer.bytes ++ bytes) _ (λ bytes known version agents claimed tree spells. none version agents claimed (nodes_of tree) (awaits_spelled problem had start opened bytes known version agents claimed tree spells)))
-  header_refusal C3 is = if_known had (λ bytes. start.buffer.bytes ++ bytes) _ is
-  header_refusal C4 is = if_known had (λ bytes. start.buffer.bytes ++ bytes) _ is
+  header_refusal (C2 fault) (other, none) = (other, if_made had (λ bytes. start.buffer.bytes ++ bytes) _ (λ bytes known version agents claimed tree spells. none version agents claimed (nodes_of tree) (awaits_spelled problem had start opened bytes known version agents claimed tree spells)))
+  header_refusal C3 is = if_made had (λ bytes. start.buffer.bytes ++ bytes) _ is
+  header_refusal C4 is = if_made had (λ bytes. start.buffer.bytes ++ bytes) _ is
   header_refusal refusal is = absurd is
 
   module _ (mid : Option (List ℕ)) (headed : Reading) (takes : TakesHeader had mid start headed (length problem.agents) claim) where
@@ -92,11 +88,11 @@ module _ (problem : Instance) (claim : Claim) (had : Option (List ℕ)) (start :
         (rest, known_mid, subst (λ w. start.buffer.bytes ++ bytes ≡ header_text headed.version w (length problem.agents) claim ++ (headed.buffer.bytes ++ rest)) opened.width same)
 
     bad_node_in : (refusal : CheckFault) → ((bytes : List ℕ) → mid ≡ Some bytes → HasBadNode problem claim headed.version refusal (headed.buffer.bytes ++ bytes)) → IfSome (option_map (λ bytes. start.buffer.bytes ++ bytes) had) (HasBadNodeInCert problem claim refusal)
-    bad_node_in refusal bad = if_known had (λ bytes. start.buffer.bytes ++ bytes) _ (λ bytes known. let (rest, known_mid, same) = after_header bytes known in record { version = headed.version; agents_in_range = takes.agents_in_range; claim_in_range = takes.claim_in_range; claim_of_version = takes.claim_of_version; nodes = headed.buffer.bytes ++ rest; spelled = same; bad = bad rest known_mid })
+    bad_node_in refusal bad = if_made had (λ bytes. start.buffer.bytes ++ bytes) _ (λ bytes known. let (rest, known_mid, same) = after_header bytes known in record { version = headed.version; agents_in_range = takes.agents_in_range; claim_in_range = takes.claim_in_range; claim_of_version = takes.claim_of_version; nodes = headed.buffer.bytes ++ rest; spelled = same; bad = bad rest known_mid })
 
     -- so is one of the tree
     pub refusal_of_tree : ((version : Version) (agents : ℕ) (claimed : Claim) (nodes : List Node) → AwaitsCert had start version agents claimed nodes → Awaits mid headed nodes) → (refusal : CheckFault) → HasTreeRefusal problem claim mid headed refusal → HasTreeCertRefusal problem claim (option_map (λ bytes. start.buffer.bytes ++ bytes) had) refusal
-    refusal_of_tree ahead (C2 fault) (other, none) = (other, if_known had (λ bytes. start.buffer.bytes ++ bytes) _ (λ bytes known version agents claimed tree spells. none (nodes_of tree) (ahead version agents claimed (nodes_of tree) (awaits_spelled problem had start opened bytes known version agents claimed tree spells))))
+    refusal_of_tree ahead (C2 fault) (other, none) = (other, if_made had (λ bytes. start.buffer.bytes ++ bytes) _ (λ bytes known version agents claimed tree spells. none (nodes_of tree) (ahead version agents claimed (nodes_of tree) (awaits_spelled problem had start opened bytes known version agents claimed tree spells))))
     refusal_of_tree ahead (C6 line) is = bad_node_in (C6 line) is
     refusal_of_tree ahead (C7 line) is = bad_node_in (C7 line) is
     refusal_of_tree ahead (C8 line) is = bad_node_in (C8 line) is

@@ -14,12 +14,6 @@ use Rattle.mapf_checker.specs.declared.fault.Verdict.{Verdict}
 use Rattle.mapf_checker.specs.declared.fault.Verdict.TheVariants.{Optimal, Within, Bound, Impossible}
 use Rattle.mapf_checker.specs.Verdict.{AcceptedIsTrue, IsGoodFor, IsShown, IsTrueOf, IsVerdictOn}
 
--- the strongest claim fits
-pub fits_itself : (answer : Claim) → FitsAnswer answer answer
-fits_itself (claims.Cost cost) = refl
-fits_itself (claims.Bound bound) = refl
-fits_itself claims.Impossible = tt
-
 -- a claim on which there is a verdict fits
 pub verdict_fits : (answer claimed : Claim) (verdict : Verdict) → IsVerdictOn answer claimed verdict → FitsAnswer answer claimed
 verdict_fits (claims.Cost cost) (claims.Cost claimed) (Optimal sum) is = is.1

@@ -26,7 +26,7 @@ use Rattle.mapf_model.specs.declared.item.Claim.{Claim}
 use Rattle.mapf_model.specs.Plan.{Instance}
 
 -- a property of bytes that are made of known ones
-if_made : {X Y : Type 0} (o : Option X) (f : X → Y) (P : Y → Type 0) → ((x : X) → o ≡ Some x → P (f x)) → IfSome (option_map f o) P
+pub if_made : {X Y : Type 0} (o : Option X) (f : X → Y) (P : Y → Type 0) → ((x : X) → o ≡ Some x → P (f x)) → IfSome (option_map f o) P
 if_made None f P holds = tt
 if_made (Some x) f P holds = holds x refl
 

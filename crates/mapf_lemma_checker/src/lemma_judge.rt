@@ -50,7 +50,6 @@ impl LemmaJudge {
     /// Returns the state before the first part. The last tree has to show that all agents cost at least the target, in
     /// ticks.
     pub fn new(alloc: Global, problem: &Problem, target: Amount) -> Result<LemmaJudge, OutOfMemory>
-        requires { length problem.now.agents ≤ most_agents }
         ensures ready { IfOk result (IsReady problem.now) }
         ensures target { IfOk result (λ judge. judge.target ≡ target) }
         ensures nothing { IfOk result (λ judge. state_of judge ≡ first_state) }

@@ -20,4 +20,3 @@ mod tree_judge;
 
 pub use cert_judge::judge_lemmas;
 pub use fault::{LemmaFault, LemmaRefusal};
-pub use lemma_judge::LemmaJudge;
