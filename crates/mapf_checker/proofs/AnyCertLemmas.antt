@@ -11,7 +11,7 @@ use Rattle.mapf_certificate.specs.Buffered.{Buffered}
 use Rattle.mapf_certificate.specs.Window.{Window, Fails, IsNoTextFault}
 use Rattle.mapf_certificate.proofs.Windows.{Window-known, ComesWithin-after, Exceeds-after, Fails-not, refuses_within}
 use Rattle.mapf_lemma_checker.specs.Answers.{FitsAnswer}
-use Rattle.mapf_lemma_checker.specs.Whole.{IsGoodLemmaCert, HasLemmaRefusal}
+use Rattle.mapf_lemma_checker.specs.Whole.{HasLemmaDefect, HasLemmaRefusal, IsGoodLemmaCert}
 use Rattle.mapf_lemma_checker.specs.declared.fault.LemmaFault.{LemmaFault}
 use Rattle.mapf_lemma_checker.specs.declared.fault.LemmaFault.TheVariants as lemmas
 use Rattle.mapf_lemma_checker.specs.declared.fault.LemmaRefusal.{LemmaRefusal}
@@ -122,10 +122,10 @@ module _ (problem : Instance) (answer : Claim) (had mid : Option (List ℕ)) (li
 
   -- a refusal of the judge of version 3 is one of the certificate
   lemma_refusal : IsTrue is → (refusal : LemmaRefusal) → HasLemmaRefusal problem answer (all_bytes buffer mid) refusal → HasCertRefusal problem answer had (of_lemma_refusal refusal)
-  lemma_refusal is_three refusal (other, none) = inr (is_of_lemmas refusal other, if_some had _ (λ bytes known. ((tells bytes known).0 is_three, none_of bytes known)))
+  lemma_refusal is_three refusal (other, says) = inr (is_of_lemmas refusal other, if_some had _ (λ bytes known. let (none, defect) = says_of bytes known in ((tells bytes known).0 is_three, none, (refusal, refl, defect))))
     where
-      none_of : (bytes : List ℕ) → had ≡ Some bytes → (claimed : Claim) → FitsAnswer answer claimed → IsGoodLemmaCert problem claimed bytes → ⊥
-      none_of bytes known = subst (λ o. IfSome o (λ b. (claimed : Claim) → FitsAnswer answer claimed → IsGoodLemmaCert problem claimed b → ⊥)) (seen bytes known) none
+      says_of : (bytes : List ℕ) → had ≡ Some bytes → ((claimed : Claim) → FitsAnswer answer claimed → IsGoodLemmaCert problem claimed bytes → ⊥) × HasLemmaDefect problem answer bytes refusal
+      says_of bytes known = subst (λ o. IfSome o (λ b. ((claimed : Claim) → FitsAnswer answer claimed → IsGoodLemmaCert problem claimed b → ⊥) × HasLemmaDefect problem answer b refusal)) (seen bytes known) says
 
   pub stops_at_lemmas : IsTrue is → (left : Option (List ℕ)) (failed : Bool) (fault : LemmaFault) → IsOfLemmaChecking mid left failed buffer (HasLemmaRefusal problem answer (all_bytes buffer mid)) fault → IsOfChecking had left failed (opened limit) (HasCertRefusal problem answer had) (of_lemmas fault)
   stops_at_lemmas is_three left failed (lemmas.Refused refusal) stops = (stops.0, ComesWithin-after had mid left (opened limit) buffer [] window stops.1, lemma_refusal is_three refusal stops.2)

@@ -18,11 +18,13 @@ use Rattle.mapf_certificate.specs.Plans.{SpellsPlan}
 use Rattle.mapf_checker.specs.declared.fault.CheckFault.{CheckFault}
 use Rattle.mapf_checker.specs.declared.fault.CheckFault.TheVariants.{C1, C2, C3, C4, C5, C6, C7, C8, C9, C10}
 use Rattle.mapf_checker.specs.Defects.{HasDefect}
+use Rattle.mapf_checker.specs.Faults.{of_lemma_refusal}
 use Rattle.mapf_checker.specs.NodeDefects.{HasNodeDefect}
 use Rattle.mapf_checker.specs.Progress.{contexts_after_all}
 use Rattle.mapf_checker.specs.Verdict.{IsGoodPlan}
 use Rattle.mapf_lemma_checker.specs.Answers.{FitsAnswer}
-use Rattle.mapf_lemma_checker.specs.Whole.{IsGoodLemmaCert}
+use Rattle.mapf_lemma_checker.specs.Whole.{HasLemmaDefect, IsGoodLemmaCert}
+use Rattle.mapf_lemma_checker.specs.declared.fault.LemmaRefusal.{LemmaRefusal}
 use Rattle.mapf_lemma_texts.specs.declared.line.LemmaLine.TheVariants.{Title}
 use Rattle.mapf_lemma_texts.specs.Lines.{line_text}
 
@@ -113,11 +115,12 @@ IsOfLemmas (C10 line) = ⊤
 IsOfLemmas fault = ⊥
 
 -- what a refusal says of a certificate of version 3, whose bytes may be unknown, beside an answer with this claim: the
--- bytes spell no certificate that shows a claim which fits the answer
+-- bytes spell no certificate that shows a claim which fits the answer, and they have the refusal's defect
 abbrev pub HasLemmaCertRefusal : Instance → Claim → Option (List ℕ) → CheckFault → Type 0
 HasLemmaCertRefusal problem answer known fault =
     IsOfLemmas fault × IfSome known (λ bytes. BeginsVersionThree bytes
-    × ((claimed : Claim) → FitsAnswer answer claimed → IsGoodLemmaCert problem claimed bytes → ⊥))
+    × ((claimed : Claim) → FitsAnswer answer claimed → IsGoodLemmaCert problem claimed bytes → ⊥)
+    × ((refusal : LemmaRefusal) × (fault ≡ of_lemma_refusal refusal) × HasLemmaDefect problem answer bytes refusal))
 
 -- what a refusal says of a certificate, by its first line
 abbrev pub HasCertRefusal : Instance → Claim → Option (List ℕ) → CheckFault → Type 0

@@ -3,6 +3,7 @@ use Rattle.std.proofs.Common.{◌≡◌, ◌≢◌, ℕ, ◌≤◌, ◌+◌, Boo
 use Rattle.std.proofs.lemmas.List.{append-nil}
 use Rattle.std.proofs.lemmas.Option.{same_Some}
 use Rattle.std.proofs.KnownBytes.{Consumes-nil}
+use Rattle.mapf_certificate.specs.declared.cert.CertFault.{CertFault}
 use Rattle.mapf_certificate.specs.declared.cert.CertFault.TheVariants as texts
 use Rattle.mapf_certificate.specs.declared.cert.LinesFault.{LinesFault}
 use Rattle.mapf_certificate.specs.declared.cert.LinesFault.TheVariants.{Text, Device, TooLong, Memory}
@@ -14,6 +15,7 @@ use Rattle.mapf_lemma_checker.specs.declared.fault.LemmaFault.{LemmaFault}
 use Rattle.mapf_lemma_checker.specs.declared.fault.LemmaFault.TheVariants as faults
 use Rattle.mapf_lemma_checker.specs.declared.fault.LemmaRefusal.{LemmaRefusal}
 use Rattle.mapf_lemma_checker.specs.declared.fault.LemmaRefusal.TheVariants.{C2, C3, C4, C6, C7, C8, C9, C10}
+use Rattle.mapf_lemma_checker.specs.BadParts.{BeginBadly, HasBadPart}
 use Rattle.mapf_lemma_checker.specs.CertJudging.{AreJudgedParts, HasPartRefusal, IsBetweenParts, IsJudgedOn, IsJudgedTo, IsStateAt, SpellsRest}
 use Rattle.mapf_lemma_checker.specs.Faults.{IsOfChecking, IsRefusedFor, of_lines}
 use Rattle.mapf_lemma_checker.specs.LemmaParts.{IsPartOf}
@@ -50,6 +52,9 @@ judged_none problem target had start = record {
   ahead = λ parts awaits. (parts, refl, awaits);
   behind = λ bytes known rest awaits. awaits;
   shows = λ rest last shown. shown;
+  bad = λ bytes rest known left_known bad.
+      let same : rest ≡ bytes = same_Some rest bytes (sym left_known ∙ known) in
+      subst (λ (t : List ℕ). HasBadPart problem target start first_state (start.buffer.bytes ++ t)) same bad;
 }
 
 -- the part is the next one, and the end isn't
@@ -134,6 +139,48 @@ module _ (problem : Instance) (target : Label) (had mid left : Option (List ℕ)
         rest = (reads.is, reads.place, reads.later, reads.sizes_after, bytes, refl, subst (λ (s : LineSizes). IsRest s (due_after now.due part) rest bytes) same due);
       }
 
+  -- where its lines stand
+  part_spelled : (rest : List ℕ) → mid ≡ Some rest → (after : List ℕ) × (left ≡ Some after) × (now.buffer.bytes ++ rest ≡ text ++ (new.buffer.bytes ++ after))
+  part_spelled rest known =
+      let (after, known_left, same, count) = Window-known mid left now.buffer new.buffer text rest next.takes.read.window known in
+      (after, known_left, same)
+
+  -- if it doesn't show what it has to show, it is bad
+  pub part_is_bad : ((after : JudgeState) → ShowsPart problem target state part after → ⊥) → (bytes : List ℕ) → had ≡ Some bytes → HasBadPart problem target start first_state (start.buffer.bytes ++ bytes)
+  part_is_bad never bytes known =
+      let reads = next.takes.read in
+      let (rest, known_mid, same, count) = Window-known had mid start.buffer now.buffer so_far.taken bytes so_far.window known in
+      let (after, known_left, spelled) = part_spelled rest known_mid in
+      so_far.bad bytes rest known known_mid (record {
+        sizes = reads.sizes;
+        claim = reads.claim;
+        header = reads.header;
+        parts = [];
+        bad = part;
+        begin = (reads.is, reads.place, never, new.buffer.bytes ++ after, spelled);
+      })
+
+  -- if it shows that, and a later one doesn't, the later one is bad
+  later_is_bad : (shown : JudgeState) → ShowsPart problem target state part shown → (bytes rest : List ℕ) → had ≡ Some bytes → left ≡ Some rest → HasBadPart problem target new shown (new.buffer.bytes ++ rest) →
+      HasBadPart problem target start first_state (start.buffer.bytes ++ bytes)
+  later_is_bad shown shows bytes rest known left_known bad =
+      let reads = next.takes.read in
+      let (had_mid, known_mid, same, count) = Window-known had mid start.buffer now.buffer so_far.taken bytes so_far.window known in
+      let (after, known_left, spelled) = part_spelled had_mid known_mid in
+      let came : rest ≡ after = same_Some rest after (sym left_known ∙ known_left) in
+      let sized : bad.sizes ≡ reads.later = sizes_same new.header bad.sizes reads.later bad.claim reads.claim bad.header reads.header_after in
+      let begin = subst (λ (s : LineSizes). BeginBadly problem target s (due_after now.due part) shown bad.parts bad.bad (new.buffer.bytes ++ after)) sized
+      (subst (λ (d : Due). BeginBadly problem target bad.sizes d shown bad.parts bad.bad (new.buffer.bytes ++ after)) reads.due
+      (subst (λ (t : List ℕ). BeginBadly problem target bad.sizes new.due shown bad.parts bad.bad (new.buffer.bytes ++ t)) came bad.begin)) in
+      so_far.bad bytes had_mid known known_mid (record {
+        sizes = reads.sizes;
+        claim = reads.claim;
+        header = reads.header;
+        parts = part ∷ bad.parts;
+        bad = bad.bad;
+        begin = (reads.is, reads.place, reads.later, reads.sizes_after, shown, shows, new.buffer.bytes ++ after, spelled, begin);
+      })
+
   pub judged_more : StatementIsUnique → (after : JudgeState) → ShowsPart problem target state part after → IsJudgedTo problem target had left start new after
   judged_more unique after shows = record {
     given = so_far.given ++ part ∷ [];
@@ -153,6 +200,7 @@ module _ (problem : Instance) (target : Label) (had mid left : Option (List ℕ)
     shows = λ rest last shown.
         let (one, is, others) = so_far.shows (part ∷ rest) last (subst (λ (ps : List Part). ShowParts problem target first_state ps last) (append_assoc so_far.given (part ∷ []) rest) shown) in
         subst (λ (s : JudgeState). ShowParts problem target s rest last) (one_state problem target unique part state one after is shows) others;
+    bad = later_is_bad after shows;
   }
 
   pub came_with_part : ComesWithin had left start.buffer
@@ -205,27 +253,28 @@ none_awaited problem target had mid start now state fault so_far only_part only_
 module _ (had left : Option (List ℕ)) (failed : Bool) (start : Buffered) (Says : LemmaRefusal → Type 0) where
   -- why reading stopped, after this was taken
   pub stops_reading : (mid : Option (List ℕ)) (now : Buffered) (taken : List ℕ) (IsText : List ℕ → Type 0) (fault : LinesFault) → Window had mid start now taken → Fails mid left failed now IsText fault →
-      ((refusal : LemmaRefusal) → refusal ≢ C2 texts.Memory → (IsNoTextFault fault → ⊥) → Says refusal) → IsOfChecking had left failed start Says (of_lines fault)
+      ((why : CertFault) → C2 why ≢ C2 texts.Memory → (IsNoTextFault fault → ⊥) → Says (C2 why)) → IsOfChecking had left failed start Says (of_lines fault)
   stops_reading mid now taken IsText (Text texts.Memory) window fails says = absurd fails
-  stops_reading mid now taken IsText (Text fault) window fails says = (fails.0, ComesWithin-after had mid left start now taken window (refuses_within mid left now IsText fails.1), says (C2 fault) (λ e. cc) (λ no. no))
+  stops_reading mid now taken IsText (Text fault) window fails says = (fails.0, ComesWithin-after had mid left start now taken window (refuses_within mid left now IsText fails.1), says fault (λ e. cc) (λ no. no))
   stops_reading mid now taken IsText Device window fails says = (fails.0, ComesWithin-after had mid left start now taken window fails.1)
   stops_reading mid now taken IsText TooLong window fails says = (fails.0, Exceeds-after had mid left start now taken window fails.1)
   stops_reading mid now taken IsText Memory window fails says = (fails.0, ComesWithin-after had mid left start now taken window fails.1)
 
-  -- why judging stopped
-  pub stops_judging : (Because : Type 0) (fault : LemmaFault) → failed ≡ false → ComesWithin had left start → IsRefusedFor Because fault → ((refusal : LemmaRefusal) → refusal ≢ C2 texts.Memory → Because → Says refusal) →
-      IsOfChecking had left failed start Says fault
-  stops_judging Because (faults.Refused (C2 fault)) works comes is says = absurd is
-  stops_judging Because (faults.Refused C3) works comes is says = absurd is
-  stops_judging Because (faults.Refused C4) works comes is says = absurd is
-  stops_judging Because (faults.Refused (C6 line)) works comes is says = (works, comes, says (C6 line) (λ e. cc) is)
-  stops_judging Because (faults.Refused (C7 line)) works comes is says = (works, comes, says (C7 line) (λ e. cc) is)
-  stops_judging Because (faults.Refused (C8 line)) works comes is says = (works, comes, says (C8 line) (λ e. cc) is)
-  stops_judging Because (faults.Refused (C9 line)) works comes is says = (works, comes, says (C9 line) (λ e. cc) is)
-  stops_judging Because (faults.Refused (C10 line)) works comes is says = (works, comes, says (C10 line) (λ e. cc) is)
-  stops_judging Because faults.Device works comes is says = absurd is
-  stops_judging Because faults.TooLong works comes is says = absurd is
-  stops_judging Because faults.Memory works comes is says = (works, comes)
+module _ (problem : Instance) (target : Label) (had left : Option (List ℕ)) (failed : Bool) (start : PartReading) where
+  -- why judging a part stopped
+  pub stops_judging : (Because : Type 0) (fault : LemmaFault) → failed ≡ false → ComesWithin had left start.buffer → IsRefusedFor Because fault → (Because → (parts : List Part) (last : JudgeState) → AwaitsParts had start parts → ShowParts problem target first_state parts last → ⊥) →
+      (Because → (bytes : List ℕ) → had ≡ Some bytes → HasBadPart problem target start first_state (start.buffer.bytes ++ bytes)) → IsOfChecking had left failed start.buffer (HasPartRefusal problem target had start) fault
+  stops_judging Because (faults.Refused (C2 fault)) works comes is none bad = absurd is
+  stops_judging Because (faults.Refused C3) works comes is none bad = absurd is
+  stops_judging Because (faults.Refused C4) works comes is none bad = absurd is
+  stops_judging Because (faults.Refused (C6 line)) works comes is none bad = (works, comes, ((λ e. cc), none is, bad is))
+  stops_judging Because (faults.Refused (C7 line)) works comes is none bad = (works, comes, ((λ e. cc), none is, bad is))
+  stops_judging Because (faults.Refused (C8 line)) works comes is none bad = (works, comes, ((λ e. cc), none is, bad is))
+  stops_judging Because (faults.Refused (C9 line)) works comes is none bad = (works, comes, ((λ e. cc), none is, bad is))
+  stops_judging Because (faults.Refused (C10 line)) works comes is none bad = (works, comes, ((λ e. cc), none is, bad is))
+  stops_judging Because faults.Device works comes is none bad = absurd is
+  stops_judging Because faults.TooLong works comes is none bad = absurd is
+  stops_judging Because faults.Memory works comes is none bad = (works, comes)
 
 -- where reading or judging a part ended with this error
 pub not_judged_on : (problem : Instance) (target : Label) (had left : Option (List ℕ)) (failed : Bool) (start reading : PartReading) (state : JudgeState) (result : Result Bool LemmaFault) (fault : LemmaFault) → IsErrAnd result (λ given. given ≡ fault) →

@@ -5,8 +5,9 @@ use Rattle.mapf_certificate.specs.declared.cert.CertFault.TheVariants as certs
 use Rattle.mapf_certificate.specs.Window.{ComesWithin, Window}
 use Rattle.mapf_lemma_checker.specs.declared.fault.LemmaFault.{LemmaFault}
 use Rattle.mapf_lemma_checker.specs.declared.fault.LemmaRefusal.{LemmaRefusal}
-use Rattle.mapf_lemma_checker.specs.declared.fault.LemmaRefusal.TheVariants.{C2}
+use Rattle.mapf_lemma_checker.specs.declared.fault.LemmaRefusal.TheVariants.{C2, C3, C4}
 use Rattle.mapf_lemma_checker.specs.Answers.{FitsAnswer}
+use Rattle.mapf_lemma_checker.specs.BadParts.{BeginsWithLemmaHeader, HasBadPart}
 use Rattle.mapf_lemma_checker.specs.Faults.{IsOfChecking}
 use Rattle.mapf_lemma_checker.specs.LemmaParts.{AreSizesOf}
 use Rattle.mapf_lemma_checker.specs.States.{JudgeState, ShowParts, first_state, tree_in}
@@ -84,6 +85,9 @@ pub record IsJudgedTo (problem : Instance) (target : Label) (had left : Option (
       AwaitsParts had start (given ++ rest)
   pub shows : (rest : List Part) (last : JudgeState) → ShowParts problem target first_state (given ++ rest) last →
       ShowParts problem target state rest last
+  pub bad : (bytes rest : List ℕ) → had ≡ Some bytes → left ≡ Some rest →
+      HasBadPart problem target reading state (reading.buffer.bytes ++ rest) →
+      HasBadPart problem target start first_state (start.buffer.bytes ++ bytes)
 
 -- the parts from the reader's place on show what they have to show, each in its place; the bytes spell them, if the
 -- source reports its bytes; and no more bytes came than were left of the limit
@@ -97,17 +101,40 @@ pub record AreJudgedParts (problem : Instance) (target : Label) (had : Option (L
   pub read : (bytes : List ℕ) → had ≡ Some bytes → AwaitsParts had reading parts
   pub within : (bytes : List ℕ) → had ≡ Some bytes → length bytes ≤ reading.buffer.left
 
--- what a refusal says of the bytes that begin with a header: no claim that they make fits the answer
+-- the bytes that begin with a header have the defect that a refusal tells by its code
+abbrev pub HasHeaderDefect : Instance → Claim → Option (List ℕ) → PartReading → LemmaRefusal → Type 0
+HasHeaderDefect problem answer had reading (C2 fault) =
+    (agents : ℕ) (claim : Claim) (parts : List Part) → AwaitsText had reading agents claim parts → ⊥
+HasHeaderDefect problem answer had reading C3 =
+    (bytes : List ℕ) → had ≡ Some bytes → (agents : ℕ) × (claim : Claim)
+    × BeginsWithLemmaHeader problem (reading.buffer.bytes ++ bytes) agents claim × (agents ≢ length problem.agents)
+HasHeaderDefect problem answer had reading C4 =
+    (bytes : List ℕ) → had ≡ Some bytes → (claim : Claim)
+    × BeginsWithLemmaHeader problem (reading.buffer.bytes ++ bytes) (length problem.agents) claim
+    × (FitsAnswer answer claim → ⊥)
+HasHeaderDefect problem answer had reading refusal = ⊥
+
+-- what a refusal says of the bytes that begin with a header: no claim that they make fits the answer, and they have the
+-- refusal's defect
 abbrev pub HasHeaderRefusal : Instance → Claim → Option (List ℕ) → PartReading → LemmaRefusal → Type 0
 HasHeaderRefusal problem answer had reading refusal =
     (refusal ≢ C2 certs.Memory) × ((claim : Claim) (parts : List Part) → FitsAnswer answer claim →
-    AwaitsText had reading (length problem.agents) claim parts → ⊥)
+    AwaitsText had reading (length problem.agents) claim parts → ⊥) × HasHeaderDefect problem answer had reading refusal
 
--- what a refusal says of the bytes after the header: no parts that they spell show what they have to show
+-- the bytes after the header have the defect that a refusal tells by its code
+abbrev pub HasPartDefect : Instance → Label → Option (List ℕ) → PartReading → LemmaRefusal → Type 0
+HasPartDefect problem target had reading (C2 fault) = (parts : List Part) → AwaitsParts had reading parts → ⊥
+HasPartDefect problem target had reading C3 = ⊥
+HasPartDefect problem target had reading C4 = ⊥
+HasPartDefect problem target had reading refusal =
+    (bytes : List ℕ) → had ≡ Some bytes → HasBadPart problem target reading first_state (reading.buffer.bytes ++ bytes)
+
+-- what a refusal says of the bytes after the header: no parts that they spell show what they have to show, and they
+-- have the refusal's defect
 abbrev pub HasPartRefusal : Instance → Label → Option (List ℕ) → PartReading → LemmaRefusal → Type 0
 HasPartRefusal problem target had reading refusal =
     (refusal ≢ C2 certs.Memory) × ((parts : List Part) (last : JudgeState) → AwaitsParts had reading parts →
-    ShowParts problem target first_state parts last → ⊥)
+    ShowParts problem target first_state parts last → ⊥) × HasPartDefect problem target had reading refusal
 
 -- what one more call means: `true`, one more part was read and judged; `false`, all parts were; no more bytes came than
 -- are allowed; and what an error means

@@ -4,6 +4,7 @@ pub mod Lists
 pub mod LemmaParts
 pub mod Trees
 pub mod States
+pub mod BadParts
 pub mod Judges
 pub mod Whole
 pub mod CertJudging

@@ -82,8 +82,8 @@ fn judge_header<S: Source>(
     ensures taken { IfOk result (TakesHeader (S.remaining source.old) (S.remaining source.new) reader.old reader.new
         (length problem.now.agents)) }
     ensures due { OnOk result (reader.new.due ≡ reader.old.due) }
-    ensures only { (claim : Claim) (parts : List Part)
-        → AwaitsText (S.remaining source.old) reader.old (length problem.now.agents) claim parts
+    ensures only { (agents : ℕ) (claim : Claim) (parts : List Part)
+        → AwaitsText (S.remaining source.old) reader.old agents claim parts
         → IfOk result (λ given. (given ≡ claim) × AwaitsParts (S.remaining source.new) reader.new parts) }
     ensures stops { IfErr result (IsOfChecking (S.remaining source.old) (S.remaining source.new)
         (S.has_failed source.new) reader.old.buffer

@@ -3,8 +3,9 @@ use mapf_certificate::{CertFault, LinesFault};
 use mapf_model::OutOfMemory;
 
 /// Why a certificate of version 3 is not accepted. Lines are counted from 1. The variant `Memory` of a text's error
-/// never occurs in here. It is proved that the certificate shows no claim that fits the answer. Which error is
-/// reported, and with which line, is only tested.
+/// never occurs in here. It is proved that the certificate shows no claim that fits the answer; that it has the defect
+/// of a `C2`, `C3` or `C4`; and that it has a part that doesn't show what it has to show where it is refused otherwise.
+/// Which of the other errors is reported, and each line, is only tested.
 #[derive(Clone, Copy, Debug, PartialEq, Eq)]
 pub enum LemmaRefusal {
     /// The certificate does not follow the grammar.

@@ -53,7 +53,7 @@ returns-in_err-judge_parts-clause-stops g c =
     let stops = subst (λ (t : Label). IsOfChecking mid left failed headed.buffer (HasPartRefusal problem t mid headed) fault) target c.in_err-judge_parts.ensures.stops in
     err_passed c.from_residual-in_err-judge_parts.result (IsOfChecking had left failed buffer Says) fault c.from_residual-in_err-judge_parts.ensures.1
     (stops_as Refuses Says had left failed start.buffer buffer fault same
-    (parts_refusal problem had start opened buffer same mid headed claim said.taken c.trees_have_texts.ensures c.parts_show_certificates.ensures answer said.only)
+    (parts_refusal problem had start opened buffer same mid headed claim said.taken (said.due ∙ opened.first_due) answer said.fits said.only c.trees_have_texts.ensures c.parts_show_certificates.ensures)
     (stops_after Refuses had mid left failed start.buffer headed.buffer (header_text start.width (length problem.agents) claim) fault said.taken.window stops))
 
 pub returns-in_err-judge-clause-stops : goal.returns-in_err-judge-clause-stops
@@ -154,7 +154,7 @@ returns-clause-only g c bytes claim known fits good =
     let opened : IsOpened problem start = search rules in
     let same : start.buffer ≡ c.args.buffer = rw c.over-reader.ensures refl in
     let awaits = awaits_spelled problem had start opened c.args.buffer same c.trees_have_texts.ensures bytes known (length problem.agents) claim good.lists good.lemmas good.tree good.spelled in
-    (c.in_ok-claim.ensures.only claim (parts_of good.lists good.lemmas good.tree) awaits).0
+    (c.in_ok-claim.ensures.only (length problem.agents) claim (parts_of good.lists good.lemmas good.tree) awaits).0
 
 pub judge_parts-requires-clause-between : goal.judge_parts-requires-clause-between
 judge_parts-requires-clause-between g c =

@@ -3,7 +3,7 @@ use Rattle.mapf_lemma_checker.specs.CertJudging.{HasPartRefusal}
 use Rattle.mapf_lemma_checker.specs.Faults.{of_lines}
 use Rattle.mapf_lemma_checker.specs.States.{JudgeState, ShowsPart}
 use Rattle.mapf_lemma_checker.specs.Judges.{state_of}
-use Rattle.mapf_lemma_checker.proofs.JudgedLemmas.{between_after, came_to_end, came_with_part, has_place, is_next, is_part_of, judged_all, judged_more, none_awaited, not_judged_on, part_refutes, stops_judging, stops_reading}
+use Rattle.mapf_lemma_checker.proofs.JudgedLemmas.{between_after, came_to_end, came_with_part, has_place, is_next, is_part_of, judged_all, judged_more, none_awaited, not_judged_on, part_is_bad, part_refutes, stops_judging, stops_reading}
 use Rattle.mapf_lemma_texts.specs.PartReading.{IsRestAt}
 use Rattle.mapf_lemma_checker.proofs.cert_judge.judge_next.Goals as goal
 
@@ -22,7 +22,7 @@ returns-in_err-part-clause-judged g c had start so_far =
     let none = none_awaited problem target had mid start now state fault so_far (λ other rest there. said.only_part other rest between.no_fault between.going there) (λ there. said.only_end between.no_fault between.going there) in
     not_judged_on problem target had left failed start c.next_part.new.self state c.from_residual.result (of_lines fault) c.from_residual.ensures.1
     (stops_reading had left failed start.buffer (HasPartRefusal problem target had start) mid now.buffer so_far.taken (IsRestAt now) fault so_far.window (said.fails between.no_fault)
-    (λ refusal other text. (other, λ parts last awaits shown. text (none parts awaits))))
+    (λ why other text. (other, (λ parts last awaits shown. text (none parts awaits)), λ parts awaits. text (none parts awaits))))
 
 pub returns-in_default-clause-judged : goal.returns-in_default-clause-judged
 returns-in_default-clause-judged g c had start so_far =
@@ -67,9 +67,9 @@ returns-in_err-part-2-clause-judged g c had start so_far =
     let next = is_next mid left now new c.in_ok-part.field-0 part c.in-Some.is (said.part between.no_fault between.going) (λ other rest there. said.only_part other rest between.no_fault between.going there) (said.only_end between.no_fault between.going) in
     let fault = c.in_err-part-2.field-0.0 in
     not_judged_on problem target had left failed start new (state_of c.part.new.self) c.from_residual-in_err-part-2.result fault c.from_residual-in_err-part-2.ensures.1
-    (stops_judging had left failed start.buffer (HasPartRefusal problem target had start) ((after : JudgeState) → ShowsPart problem target state part after → ⊥) fault said.works
+    (stops_judging problem target had left failed start ((after : JudgeState) → ShowsPart problem target state part after → ⊥) fault said.works
     (came_with_part problem target had mid left start now new state so_far part next) c.in_err-part-2.ensures.refused
-    (λ refusal other never. (other, part_refutes problem target had mid left start now new state so_far part next never)))
+    (part_refutes problem target had mid left start now new state so_far part next) (part_is_bad problem target had mid left start now new state so_far part next))
 
 pub returns-clause-judged : goal.returns-clause-judged
 returns-clause-judged g c had start so_far =
