@@ -15,3 +15,4 @@ pub mod StopLemmas
 pub mod CertLemmas
 pub mod TitleLemmas
 pub mod AnyCertLemmas
+pub mod UniqueLemmas

@@ -1,5 +1,6 @@
 -- What is accepted is so, and there is one verdict on an answer and a claim.
-use Rattle.std.proofs.Common.{◌≡◌, ◌<◌, ℕ, List, refl, sym, ◌∙◌, ap, inl, inr, arith}
+use Rattle.std.proofs.Common.{◌≡◌, ◌<◌, ◌≤◌, ◌⊎◌, ℕ, List, refl, sym, ◌∙◌, ap, inl, inr, arith}
+use Rattle.std.proofs.lemmas.Bool.{cases_lt}
 use Rattle.mapf_lemma_checker.specs.Answers.{FitsAnswer}
 use Rattle.mapf_lemmas.specs.Laws.{CertificatesShowTruth}
 use Rattle.mapf_model.specs.Laws.{ShownClaimsHold}
@@ -12,7 +13,7 @@ use Rattle.mapf_certificate.specs.declared.plan_text.PlanAnswer.{PlanAnswer}
 use Rattle.mapf_certificate.specs.declared.plan_text.PlanAnswer.TheVariants as answers
 use Rattle.mapf_checker.specs.declared.fault.Verdict.{Verdict}
 use Rattle.mapf_checker.specs.declared.fault.Verdict.TheVariants.{Optimal, Within, Bound, Impossible}
-use Rattle.mapf_checker.specs.Verdict.{AcceptedIsTrue, IsGoodFor, IsShown, IsTrueOf, IsVerdictOn}
+use Rattle.mapf_checker.specs.Verdict.{AcceptedIsTrue, FittingClaimsHaveVerdicts, IsGoodFor, IsShown, IsTrueOf, IsVerdictOn}
 
 -- a claim on which there is a verdict fits
 pub verdict_fits : (answer claimed : Claim) (verdict : Verdict) → IsVerdictOn answer claimed verdict → FitsAnswer answer claimed
@@ -22,6 +23,20 @@ verdict_fits (claims.Cost cost) (claims.Bound claimed) (Within bound sum) is = o
 verdict_fits (claims.Bound bound) (claims.Bound claimed) (Bound shown) is = is.1
 verdict_fits claims.Impossible claims.Impossible Impossible is = tt
 verdict_fits answer claimed verdict is = absurd is
+
+-- and on one that fits there is a verdict
+fit_verdict : (answer claimed : Claim) → FitsAnswer answer claimed → (verdict : Verdict) × IsVerdictOn answer claimed verdict
+fit_verdict (claims.Cost cost) (claims.Cost claimed) fits = (Optimal cost, (refl, fits))
+fit_verdict (claims.Cost cost) (claims.Bound claimed) fits = by (cases_lt claimed cost) where
+  by : (claimed < cost) ⊎ (cost ≤ claimed) → (verdict : Verdict) × IsVerdictOn (claims.Cost cost) (claims.Bound claimed) verdict
+  by (inl below) = (Within claimed cost, (refl, refl, below))
+  by (inr above) = (Optimal cost, (refl, omega (arith, fits, above)))
+fit_verdict (claims.Bound bound) (claims.Bound claimed) fits = (Bound bound, (refl, fits))
+fit_verdict claims.Impossible claims.Impossible fits = (Impossible, tt)
+fit_verdict answer claimed fits = absurd fits
+
+pub fitting_claims_have_verdicts : FittingClaimsHaveVerdicts
+fitting_claims_have_verdicts answer claimed = (fit_verdict answer claimed, λ some. verdict_fits answer claimed some.0 some.1)
 
 -- beside a plan whose cost is claimed, or a bound that equals it, the plan is optimal
 on_cost : (cost claimed : ℕ) (verdict : Verdict) → IsVerdictOn (claims.Cost cost) (claims.Cost claimed) verdict → verdict ≡ Optimal cost

@@ -1,7 +1,8 @@
 -- What a result of the checker says.
-use Rattle.std.specs.Prelude.{◌≡◌, ◌<◌, ◌⊎◌, ℕ, List, length}
+use Rattle.std.specs.Prelude.{◌≡◌, ◌<◌, ◌⊎◌, ◌↔◌, ℕ, List, length}
 use Rattle.mapf_model.specs.declared.item.Claim.{Claim}
 use Rattle.mapf_model.specs.declared.item.Claim.TheVariants as claim
+use Rattle.mapf_model.specs.Grid.{IsGridMap}
 use Rattle.mapf_model.specs.Plan.{Instance, IsValid, IsSumOfCosts, IsOptimal, IsLowerBound, IsImpossible}
 use Rattle.mapf_model.specs.Tree.{ConstraintTree, Shows}
 use Rattle.mapf_certificate.specs.Certificates.{SpellsCert}
@@ -11,6 +12,7 @@ use Rattle.mapf_certificate.specs.declared.plan_text.PlanAnswer.{PlanAnswer}
 use Rattle.mapf_certificate.specs.declared.plan_text.PlanAnswer.TheVariants as answers
 use Rattle.mapf_checker.specs.declared.fault.Verdict.{Verdict}
 use Rattle.mapf_checker.specs.declared.fault.Verdict.TheVariants.{Optimal, Within, Bound, Impossible}
+use Rattle.mapf_lemma_checker.specs.Answers.{FitsAnswer}
 use Rattle.mapf_lemma_checker.specs.Whole.{IsGoodLemmaCert, IsShownByLemmas}
 
 -- what a verdict says of the problem and the answer of a plan text. `optimal`: the answer is a plan that is optimal
@@ -98,3 +100,15 @@ AcceptedIsTrue =
     (problem : Instance) (says : PlanAnswer) (answer claimed : Claim) (verdict : Verdict) →
     IsGoodFor problem says answer → IsVerdictOn answer claimed verdict → IsShown problem claimed →
     IsTrueOf problem says verdict
+
+-- a claim fits an answer exactly if there is a verdict on the two
+abbrev pub FittingClaimsHaveVerdicts : Type 0
+FittingClaimsHaveVerdicts =
+    (answer claimed : Claim) →
+    FitsAnswer answer claimed ↔ ((verdict : Verdict) × IsVerdictOn answer claimed verdict)
+
+-- two texts are accepted with one verdict at most
+abbrev pub VerdictIsUnique : Type 0
+VerdictIsUnique =
+    (problem : Instance) (plan_text cert_text : List ℕ) (verdict other : Verdict) → IsGridMap problem.grid →
+    AreAccepted problem plan_text cert_text verdict → AreAccepted problem plan_text cert_text other → verdict ≡ other
