@@ -1,5 +1,5 @@
-//! What a constraint forbids, as an arrival, by which an agent's constraints are sorted and compared.
-use mapf_model::{Bar, Cell, Tick};
+//! What a constraint forbids at one tick, as an arrival, by which an agent's constraints are sorted and compared.
+use mapf_model::{Cell, Tick};
 
 /// An arrival that a constraint forbids: to be in the cell at the tick, whatever the step there; or, if `from` names a
 /// cell, to get there from it.
@@ -11,19 +11,21 @@ pub struct Arrival {
 }
 
 impl Arrival {
-    /// Returns the arrival that the constraint forbids. That of an edge constraint is one tick after its move begins.
-    pub fn of(bar: Bar) -> Arrival {
-        match bar {
-            Bar::Cell { cell, tick } => Arrival {
-                tick,
-                cell,
-                from: None,
-            },
-            Bar::Move { from, to, tick } => Arrival {
-                tick: tick.saturating_add(1),
-                cell: to,
-                from: Some(from),
-            },
+    /// Returns what a vertex constraint forbids.
+    pub(crate) fn at(cell: Cell, tick: Tick) -> Arrival {
+        Arrival {
+            tick,
+            cell,
+            from: None,
+        }
+    }
+
+    /// Returns what an edge constraint forbids: to arrive one tick after the move begins.
+    pub(crate) fn by_move(from: Cell, to: Cell, tick: Tick) -> Arrival {
+        Arrival {
+            tick: tick.saturating_add(1),
+            cell: to,
+            from: Some(from),
         }
     }
 

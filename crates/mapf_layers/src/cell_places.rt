@@ -35,4 +35,10 @@ impl CellPlaces {
             None
         }
     }
+
+    /// Returns the place that was noted for the cell last, which may be stale.
+    #[inline(always)]
+    pub fn noted(&self, cell: Cell) -> Option<usize> {
+        self.places.get(cell.0 as usize).copied()
+    }
 }

@@ -1,5 +1,5 @@
-//! An agent whose layers are to be found: where it goes, and which arrivals its constraints forbid.
-use crate::arrival::Arrival;
+//! An agent whose layers are to be found: where it goes, and under which constraints.
+use crate::constraint_set::ConstraintSet;
 use mapf_distance::Distances;
 use mapf_model::limits::MOST_CELLS;
 use mapf_model::{Agent, Cell, Neighbourhoods, Tick};
@@ -12,35 +12,36 @@ pub struct LayerTask<'a> {
     /// The distances to the agent's goal.
     pub distances: &'a Distances,
     pub agent: Agent,
-    /// What the agent's constraints forbid, in rising order.
-    pub bars: &'a [Arrival],
+    pub constraints: &'a ConstraintSet,
 }
 
 impl<'a> LayerTask<'a> {
-    /// Returns the first tick from which on the agent may stay at its goal.
-    pub(crate) fn rest(&self) -> Tick {
-        let mut rest = 0;
-        for bar in self.bars {
-            if bar.cell == self.agent.goal && bar.from.is_none() {
-                rest = rest.max(bar.tick.saturating_add(1));
-            }
-        }
-        rest
+    /// Returns the first tick from which on the agent may stay at its goal, None if it never may.
+    pub(crate) fn rest(&self) -> Option<Tick> {
+        self.constraints.rest_from(self.agent.goal)
     }
 
-    /// Returns a cost that no cheapest path exceeds, in ticks: after its last constraint the agent goes straight.
+    /// Returns a cost that no cheapest path exceeds, in ticks: after the last change of its constraints the agent needs
+    /// no more steps than there are cells, and a constraint may allow it less.
     pub(crate) fn most(&self) -> u32 {
-        match self.bars.last() {
-            Some(bar) => bar.tick.saturating_add(MOST_CELLS),
-            None => MOST_CELLS,
-        }
+        self.constraints
+            .horizon()
+            .saturating_add(MOST_CELLS)
+            .min(self.greatest_cost())
+    }
+
+    /// Returns the cost that a constraint allows at most, in ticks. The greatest number if none does.
+    pub(crate) fn greatest_cost(&self) -> u32 {
+        self.constraints.most().unwrap_or(u32::MAX)
     }
 
     /// Returns whether a constraint forbids the start at tick 0.
     pub(crate) fn is_start_barred(&self) -> bool {
-        self.bars.iter().any(|bar| bar.tick == 0
-            && bar.cell == self.agent.start
-            && bar.from.is_none())
+        let start = self.agent.start;
+        match self.distances.get(start) {
+            Some(distance) => !self.constraints.steps_to(0).allows(start, start, distance),
+            None => false,
+        }
     }
 
     /// Returns the cells above and left, the cell itself, and those right and below; blocked ones among them.

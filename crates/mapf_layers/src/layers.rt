@@ -1,9 +1,11 @@
 //! The layers of an agent's cheapest paths, and the labels that show that none is cheaper.
-use crate::arrival::{Arrival, arrivals_at};
 use crate::cell_places::CellPlaces;
 use crate::layer_task::LayerTask;
 use crate::reach::{Reach, Swept};
-use mapf_model::{Cell, Entry, Label, OutOfMemory, Tick};
+use crate::state_labels::StateLabels;
+use crate::step_rules::StepRules;
+use mapf_lemmas::{Amount, PricedEntry};
+use mapf_model::{Cell, OutOfMemory, Tick};
 use std::alloc::Global;
 
 /// The memory in which layers are found, which serves one agent after another on the same grid.
@@ -60,32 +62,46 @@ impl Workspace {
     }
 
     /// Returns sound labels by which the agent costs at least `value` ticks, or can't arrive if that is None: for each
-    /// state that can be reached and whose label is greater than its distance an entry, by tick and then by cell. They
-    /// are sound if no path is cheaper.
+    /// state that can be reached and whose label is greater than its default an entry, by tick and then by cell. They
+    /// are sound if no path is cheaper. If cells have to be clear, None asks for a greatest cost too, since without one
+    /// the states don't end.
     pub fn labels(
         &mut self,
         alloc: Global,
         task: &LayerTask,
         value: Option<u32>,
-    ) -> Result<Vec<Entry>, OutOfMemory> {
+    ) -> Result<Vec<PricedEntry>, OutOfMemory> {
         let limit = match value {
             Some(ticks) => ticks.saturating_sub(1),
             None => task.most(),
         };
-        let _swept: Swept = self.reach.sweep(task, limit)?;
+        // The default shows what a constraint asks for at least.
+        if value.is_some() && limit < task.constraints.least() {
+            return Ok(Vec::new(alloc));
+        }
+        let _swept: Swept = self.reach.sweep(task, limit, task.rest())?;
         let mut entries = Vec::with_capacity(alloc, self.reach.cells().len().max(1))?;
-        if task.is_start_barred() {
+        if task.is_start_barred() && is_below(task, limit) {
             entries.push(entry_of(task.agent.start, 0, value))?;
         }
-        let mut row = Vec::new(alloc);
         for tick in 0..self.reach.ticks() {
             let (low, high) = self.reach.range_at(tick);
-            row.clear();
-            row.extend_from_slice(self.reach.cells().get(low..high).unwrap_or(&[]))?;
-            row.sort_unstable();
-            add_entries(&mut entries, &row, tick, value)?;
+            self.reach.sort(low, high);
+            let row = self.reach.cells().get(low..high).unwrap_or(&[]);
+            add_entries(&mut entries, row, tick, value)?;
         }
         Ok(entries)
+    }
+
+    /// Returns the least costs that the agent has left, for the states that it can reach with an f-value of at most
+    /// `last`.
+    pub fn state_labels(
+        &mut self,
+        alloc: Global,
+        task: &LayerTask,
+        last: u32,
+    ) -> Result<StateLabels, OutOfMemory> {
+        StateLabels::of(alloc, task, last, &mut self.reach)
     }
 
     // Adds the layer before the newest one, which is that of the tick, and the sources of the newest one's cells.
@@ -95,11 +111,11 @@ impl Workspace {
         self.begins.push(number(high)?)?;
         let range = self.reach.range_at(tick.saturating_sub(1));
         self.reach.index(range.0, range.1);
-        let bars = arrivals_at(task.bars, tick);
+        let rules = task.constraints.steps_to(tick);
         for place in low..high {
             if let Some(&cell) = self.cells.get(place) {
                 let step = BackStep {
-                    bars,
+                    rules: &rules,
                     range,
                     high,
                     cell,
@@ -131,7 +147,7 @@ impl Workspace {
         if !self.reach.has(step.range, from) {
             return Ok(0);
         }
-        if step.bars.iter().any(|bar| bar.is_step(from, step.cell)) {
+        if !step.rules.is_open(from, step.cell) {
             return Ok(0);
         }
         let count = self.cells.len();
@@ -147,9 +163,17 @@ impl Workspace {
     }
 }
 
+// Returns whether the start's distance is at most the limit.
+fn is_below(task: &LayerTask, limit: u32) -> bool {
+    match task.distances.get(task.agent.start) {
+        Some(distance) => distance <= limit,
+        None => false,
+    }
+}
+
 // Adds the entries of the states in these cells at a tick.
 fn add_entries(
-    entries: &mut Vec<Entry>,
+    entries: &mut Vec<PricedEntry>,
     cells: &[Cell],
     tick: Tick,
     value: Option<u32>,
@@ -161,12 +185,12 @@ fn add_entries(
 }
 
 // Returns the entry of a state of an agent that costs at least `value`, or can't arrive if that is None.
-fn entry_of(cell: Cell, tick: Tick, value: Option<u32>) -> Entry {
+fn entry_of(cell: Cell, tick: Tick, value: Option<u32>) -> PricedEntry {
     let label = match value {
-        Some(ticks) => Label::Ticks(ticks.saturating_sub(tick)),
-        None => Label::Never,
+        Some(ticks) => Amount::of(u64::from(ticks.saturating_sub(tick))),
+        None => Amount::infinite(),
     };
-    Entry { cell, tick, label }
+    PricedEntry { cell, tick, label }
 }
 
 /// The layers of the cheapest paths of one agent under its constraints.
@@ -217,8 +241,8 @@ impl Layers {
 // What holds of all steps back from one cell.
 #[derive(Drop)]
 struct BackStep<'a> {
-    // The arrivals that constraints forbid at its tick.
-    bars: &'a [Arrival],
+    // What the constraints allow of the steps to its tick.
+    rules: &'a StepRules<'a>,
     // The range of the states that the sweep has reached one tick earlier.
     range: (usize, usize),
     // Where the layer of the tick before begins.
@@ -226,7 +250,7 @@ struct BackStep<'a> {
     cell: Cell,
 }
 
-// Returns a place or a count as it is kept. So many states don't fit into memory.
-fn number(count: usize) -> Result<u32, OutOfMemory> {
+/// Returns a place or a count as it is kept. So many states don't fit into memory.
+pub(crate) fn number(count: usize) -> Result<u32, OutOfMemory> {
     u32::try_from(count).map_err(|_| OutOfMemory)
 }

@@ -1,7 +1,8 @@
 //! The states that an agent can reach, tick by tick, with an f-value up to a limit. Layers and labels are made of them.
-use crate::arrival::{Arrival, arrivals_at};
 use crate::cell_places::CellPlaces;
 use crate::layer_task::LayerTask;
+use crate::spread::Spread;
+use crate::step_rules::StepRules;
 use mapf_model::{Cell, OutOfMemory, Tick};
 use std::alloc::Global;
 
@@ -15,7 +16,11 @@ pub struct Reach {
     places: CellPlaces,
     // Whether a state was left out for its f-value.
     is_cut: bool,
+    spread: Spread,
 }
+
+// By so many ticks a cost may exceed the one that is expected before it is asked whether the agent can arrive at all.
+const PATIENCE: u32 = 32;
 
 /// How a sweep ended.
 #[derive(Clone, Copy, Debug, PartialEq, Eq)]
@@ -24,15 +29,14 @@ pub enum Swept {
     Arrives(Tick),
     /// It doesn't arrive by the limit. States of a greater f-value were left out.
     Cut,
-    /// It never arrives: no state is left.
+    /// It never arrives: no state is left, or each one that was left out costs more than a constraint allows.
     Ended,
 }
 
 // What holds of all steps to one tick.
 #[derive(Drop)]
 struct Step<'a> {
-    // The arrivals that constraints forbid at this tick.
-    bars: &'a [Arrival],
+    rules: StepRules<'a>,
     // The greatest distance that a state may have there.
     most: u32,
     // Where the states of this tick begin.
@@ -47,6 +51,7 @@ impl Reach {
             begins: Vec::new(alloc),
             places: CellPlaces::of(alloc, cells)?,
             is_cut: false,
+            spread: Spread::of(alloc),
         })
     }
 
@@ -57,50 +62,67 @@ impl Reach {
         task: &LayerTask,
         expected: u32,
     ) -> Result<Option<u32>, OutOfMemory> {
+        let Some(rest) = task.rest() else {
+            return Ok(None);
+        };
         let most = task.most();
-        let mut limit = expected.max(task.rest());
-        if let Some(distance) = task.distances.get(task.agent.start) {
-            limit = limit.max(distance);
-        }
+        let usual = expected.max(task.distances.get(task.agent.start).unwrap_or(0));
+        let mut limit = usual.max(rest).min(most);
         let mut rise = 1u32;
+        // Without cells that have to be clear the agent can arrive, or a sweep finds that no state is left.
+        let mut is_open = task.constraints.clear().is_empty();
         // The rises double, so the greatest cost is passed before they have all been made.
         for _ in 0..u32::BITS {
-            match self.sweep(task, limit)? {
+            if !is_open && limit > usual.saturating_add(PATIENCE) {
+                if !self.spread.arrives(task, rest, &mut self.places)? {
+                    return Ok(None);
+                }
+                is_open = true;
+            }
+            match self.sweep(task, limit, Some(rest))? {
                 Swept::Arrives(cost) => return Ok(Some(cost)),
                 Swept::Ended => return Ok(None),
                 Swept::Cut if limit >= most => return Ok(None),
-                Swept::Cut => limit = limit.saturating_add(rise),
+                Swept::Cut => limit = limit.saturating_add(rise).min(most),
             }
             rise = rise.saturating_mul(2);
         }
         Ok(None)
     }
 
-    /// Reaches states of f-values up to the limit, tick by tick, until the agent arrives for good or none is left.
-    pub fn sweep(&mut self, task: &LayerTask, limit: u32) -> Result<Swept, OutOfMemory> {
-        let rest = task.rest();
-        self.begin(task, limit)?;
-        for tick in 0..=limit {
+    /// Reaches states of f-values up to the limit, tick by tick, until the agent is at its goal at a tick from which on it
+    /// may stay there, or none is left. If no such tick is given it goes on to the limit.
+    pub fn sweep(
+        &mut self,
+        task: &LayerTask,
+        limit: u32,
+        rest: Option<Tick>,
+    ) -> Result<Swept, OutOfMemory> {
+        let greatest = task.greatest_cost();
+        let end = limit.min(greatest);
+        self.begin(task, end)?;
+        for tick in 0..=end {
             let (low, high) = self.range_at(tick);
             if low >= high {
                 break;
             }
-            let goal = task.agent.goal;
-            if tick >= rest && self.places.find(&self.cells, low, high, goal).is_some() {
+            if matches!(rest, Some(rest) if tick >= rest)
+                && self.has((low, high), task.agent.goal)
+            {
                 return Ok(Swept::Arrives(tick));
             }
-            let Some(most) = limit.saturating_sub(tick).checked_sub(1) else {
+            let Some(most) = end.saturating_sub(tick).checked_sub(1) else {
                 self.is_cut = true;
                 break;
             };
             let step = Step {
-                bars: arrivals_at(task.bars, tick.saturating_add(1)),
+                rules: task.constraints.steps_to(tick.saturating_add(1)),
                 most,
                 first: high,
             };
             self.leave_all(task, &step, low)?;
         }
-        Ok(if self.is_cut {
+        Ok(if self.is_cut && limit < greatest {
             Swept::Cut
         } else {
             Swept::Ended
@@ -122,6 +144,13 @@ impl Reach {
         &self.cells
     }
 
+    /// Puts the cells of this range, which is that of a tick, in rising order.
+    pub fn sort(&mut self, low: usize, high: usize) {
+        if let Some(row) = self.cells.as_mut_slice().get_mut(low..high) {
+            row.sort_unstable();
+        }
+    }
+
     /// Returns how many ticks the sweep has gone over.
     pub fn ticks(&self) -> u32 {
         u32::try_from(self.begins.len()).unwrap_or(u32::MAX)
@@ -138,8 +167,14 @@ impl Reach {
 
     /// Returns whether the cell is among those of a range that has been indexed.
     #[inline(always)]
-    pub fn has(&self, (low, high): (usize, usize), cell: Cell) -> bool {
-        self.places.find(&self.cells, low, high, cell).is_some()
+    pub fn has(&self, range: (usize, usize), cell: Cell) -> bool {
+        self.place_in(range, cell).is_some()
+    }
+
+    /// Returns the place of the cell among those of a range that has been indexed.
+    #[inline(always)]
+    pub fn place_in(&self, (low, high): (usize, usize), cell: Cell) -> Option<usize> {
+        self.places.find(&self.cells, low, high, cell)
     }
 
     // Reaches the start, if the agent may be there and its distance is within the limit.
@@ -207,7 +242,7 @@ impl Reach {
         {
             return Ok(());
         }
-        if step.bars.iter().any(|bar| bar.is_step(from, to)) {
+        if !step.rules.is_open(from, to) {
             return Ok(());
         }
         self.places.put(to, count);
