@@ -76,12 +76,12 @@ impl Workspace {
             None => task.most(),
         };
         // The default shows what a constraint asks for at least.
-        if value.is_some() && limit < task.constraints.least() {
+        if matches!(value, Some(ticks) if ticks <= task.constraints.least()) {
             return Ok(Vec::new(alloc));
         }
         let _swept: Swept = self.reach.sweep(task, limit, task.rest())?;
         let mut entries = Vec::with_capacity(alloc, self.reach.cells().len().max(1))?;
-        if task.is_start_barred() && is_below(task, limit) {
+        if task.is_start_barred() && (value.is_none() || is_start_within(task, limit)) {
             entries.push(entry_of(task.agent.start, 0, value))?;
         }
         for tick in 0..self.reach.ticks() {
@@ -164,7 +164,7 @@ impl Workspace {
 }
 
 // Returns whether the start's distance is at most the limit.
-fn is_below(task: &LayerTask, limit: u32) -> bool {
+fn is_start_within(task: &LayerTask, limit: u32) -> bool {
     match task.distances.get(task.agent.start) {
         Some(distance) => distance <= limit,
         None => false,
