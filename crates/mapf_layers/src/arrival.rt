@@ -1,4 +1,5 @@
 //! What a constraint forbids at one tick, as an arrival, by which an agent's constraints are sorted and compared.
+use mapf_lemmas::PathConstraint;
 use mapf_model::{Cell, Tick};
 
 /// An arrival that a constraint forbids: to be in the cell at the tick, whatever the step there; or, if `from` names a
@@ -26,6 +27,21 @@ impl Arrival {
             tick: tick.saturating_add(1),
             cell: to,
             from: Some(from),
+        }
+    }
+
+    /// Returns the constraint that forbids it.
+    pub fn constraint(&self) -> PathConstraint {
+        match self.from {
+            None => PathConstraint::NotAt {
+                cell: self.cell,
+                tick: self.tick,
+            },
+            Some(from) => PathConstraint::NotMove {
+                from,
+                to: self.cell,
+                tick: self.tick.saturating_sub(1),
+            },
         }
     }
 

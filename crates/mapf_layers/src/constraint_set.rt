@@ -61,6 +61,17 @@ impl ConstraintSet {
         Ok(())
     }
 
+    /// Adds all constraints of another set. After the last one `tidy` has to be called.
+    pub fn add_all(&mut self, other: &ConstraintSet) -> Result<(), OutOfMemory> {
+        self.arrivals.extend_from_slice(&other.arrivals)?;
+        self.clear.extend_from_slice(&other.clear)?;
+        self.least = self.least.max(other.least);
+        if let Some(ticks) = other.most {
+            self.most = Some(ticks.min(self.most.unwrap_or(ticks)));
+        }
+        Ok(())
+    }
+
     /// Sorts the constraints, and drops those that are there twice or follow from another one: a vertex constraint on a
     /// cell that has to be clear by then, and a later tick from which a cell has to be clear.
     pub fn tidy(&mut self) {
@@ -180,7 +191,7 @@ impl ConstraintSet {
     ) -> Result<Vec<AgentConstraint>, OutOfMemory> {
         let mut list = Vec::new(alloc);
         for bar in &self.arrivals {
-            let constraint = constraint_of(bar);
+            let constraint = bar.constraint();
             list.push(AgentConstraint { agent, constraint })?;
         }
         for &Clear { cell, tick } in &self.clear {
@@ -205,21 +216,6 @@ pub(crate) fn is_cleared(clear: &[Clear], cell: Cell, tick: Tick) -> bool {
     match clear.get(place) {
         Some(found) => found.cell == cell && found.tick <= tick,
         None => false,
-    }
-}
-
-// Returns the constraint that forbids the arrival.
-fn constraint_of(bar: &Arrival) -> PathConstraint {
-    match bar.from {
-        None => PathConstraint::NotAt {
-            cell: bar.cell,
-            tick: bar.tick,
-        },
-        Some(from) => PathConstraint::NotMove {
-            from,
-            to: bar.cell,
-            tick: bar.tick.saturating_sub(1),
-        },
     }
 }
 
