@@ -17,6 +17,11 @@ impl CellPlaces {
         })
     }
 
+    /// Returns how many cells the grid has.
+    pub fn len(&self) -> usize {
+        self.places.len()
+    }
+
     /// Notes that the cell stands at this place.
     #[inline(always)]
     pub fn put(&mut self, cell: Cell, place: usize) {

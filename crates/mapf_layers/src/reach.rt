@@ -19,7 +19,7 @@ pub struct Reach {
     spread: Spread,
 }
 
-// By so many ticks a cost may exceed the one that is expected before it is asked whether the agent can arrive at all.
+// By so many ticks a limit may exceed the cost that is usual before it is asked whether the agent can arrive at all.
 const PATIENCE: u32 = 32;
 
 /// How a sweep ended.
@@ -71,9 +71,10 @@ impl Reach {
         let mut rise = 1u32;
         // Without cells that have to be clear the agent can arrive, or a sweep finds that no state is left.
         let mut is_open = task.constraints.clear().is_empty();
+        self.cells.clear();
         // The rises double, so the greatest cost is passed before they have all been made.
         for _ in 0..u32::BITS {
-            if !is_open && limit > usual.saturating_add(PATIENCE) {
+            if !is_open && self.is_long(usual, limit) {
                 if !self.spread.arrives(task, rest, &mut self.places)? {
                     return Ok(None);
                 }
@@ -88,6 +89,12 @@ impl Reach {
             rise = rise.saturating_mul(2);
         }
         Ok(None)
+    }
+
+    // Returns whether the next sweep, up to the limit, takes longer than to find whether the agent can arrive at all: the
+    // last one reached more states than there are cells, or it takes many ticks more than is usual.
+    fn is_long(&self, usual: u32, limit: u32) -> bool {
+        self.cells.len() > self.places.len() || limit > usual.saturating_add(PATIENCE)
     }
 
     /// Reaches states of f-values up to the limit, tick by tick, until the agent is at its goal at a tick from which on it
