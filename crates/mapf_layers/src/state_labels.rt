@@ -32,6 +32,8 @@ pub struct StateLabels {
 // What holds of all steps from one tick to the next.
 #[derive(Drop)]
 struct Onward<'a> {
+    task: &'a LayerTask<'a>,
+    reach: &'a Reach,
     rules: StepRules<'a>,
     // The next tick, and where its states begin and end.
     tick: Tick,
@@ -59,6 +61,7 @@ impl StateLabels {
         labels.states.resize(count, NO_STATE)?;
         labels.add_begins(reach)?;
         let settled = settled_from(task);
+        let rest = task.rest();
         for back in 1..=reach.ticks() {
             let tick = reach.ticks().saturating_sub(back);
             let (low, high) = reach.range_at(tick);
@@ -66,7 +69,8 @@ impl StateLabels {
             if tick >= settled {
                 labels.fill_settled(task, reach, (low, high));
             } else {
-                labels.fill(task, reach, tick);
+                let is_rest = matches!(rest, Some(rest) if tick >= rest);
+                labels.fill(task, reach, tick, is_rest);
             }
             reach.index(low, high);
         }
@@ -165,16 +169,18 @@ impl StateLabels {
         }
     }
 
-    // Finds the costs that are left from the states of a tick by those of the next one.
-    fn fill(&mut self, task: &LayerTask, reach: &Reach, tick: Tick) {
+    // Finds the costs that are left from the states of a tick by those of the next one. The agent may stay at its goal
+    // from the tick on if `is_rest` says so.
+    fn fill(&mut self, task: &LayerTask, reach: &Reach, tick: Tick, is_rest: bool) {
         let (low, high) = reach.range_at(tick);
         let next = tick.saturating_add(1);
         let onward = Onward {
+            task,
+            reach,
             rules: task.constraints.steps_to(next),
             tick: next,
             range: reach.range_at(next),
         };
-        let is_rest = matches!(task.rest(), Some(rest) if tick >= rest);
         for place in low..high {
             let Some(&cell) = reach.cells().get(place) else {
                 return;
@@ -182,7 +188,7 @@ impl StateLabels {
             let rest = if is_rest && cell == task.agent.goal {
                 0
             } else {
-                self.rest_from(task, reach, &onward, cell)
+                self.rest_from(&onward, cell)
             };
             if let Some(state) = self.states.get_mut(place) {
                 *state = StateLabel { cell, rest };
@@ -191,26 +197,34 @@ impl StateLabels {
     }
 
     // Returns the least cost that is left from a cell before a step.
-    fn rest_from(&self, task: &LayerTask, reach: &Reach, onward: &Onward, cell: Cell) -> u32 {
-        let [above, left, here, right, below] = task.around(cell);
-        let mut least = u32::MAX;
-        for to in [above, left, here, right, below].into_iter().flatten() {
-            if let Some(distance) = task.distances.get(to) {
-                if onward.rules.allows(cell, to, distance) {
-                    least = least.min(self.rest_after(reach, onward, to, distance));
-                }
-            }
-        }
+    fn rest_from(&self, onward: &Onward, cell: Cell) -> u32 {
+        let [above, left, here, right, below] = onward.task.around(cell);
+        let least = self
+            .rest_after(onward, cell, above)
+            .min(self.rest_after(onward, cell, left))
+            .min(self.rest_after(onward, cell, here))
+            .min(self.rest_after(onward, cell, right))
+            .min(self.rest_after(onward, cell, below));
         least.saturating_add(1)
     }
 
-    // Returns the least cost that is left in a cell after a step.
+    // Returns the least cost that is left after a step, the greatest number if the step isn't allowed.
     #[inline(always)]
-    fn rest_after(&self, reach: &Reach, onward: &Onward, to: Cell, distance: u32) -> u32 {
+    fn rest_after(&self, onward: &Onward, from: Cell, to: Option<Cell>) -> u32 {
+        let Some(to) = to else {
+            return u32::MAX;
+        };
+        let Some(distance) = onward.task.distances.get(to) else {
+            return u32::MAX;
+        };
+        if !onward.rules.allows(from, to, distance) {
+            return u32::MAX;
+        }
         if onward.tick.saturating_add(distance) > self.last {
             return distance;
         }
-        match reach.place_in(onward.range, to) {
+        // Each other step leads to one of the states.
+        match onward.reach.place_in(onward.range, to) {
             Some(place) => self.states.get(place).map_or(distance, |state| state.rest),
             None => distance,
         }
