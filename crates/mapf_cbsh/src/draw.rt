@@ -1,7 +1,8 @@
 //! The tree that shows a claim, drawn from the nodes of a search that has ended, as short as it can be.
 use crate::layer_finder::LayerFinder;
 use crate::node::{Node, Replanned, Split};
-use crate::view::add_bars;
+use crate::view::gather;
+use mapf_layers::ConstraintSet;
 use mapf_model::limits::GREATEST_COST;
 use mapf_model::{Block, Item, OutOfMemory};
 use std::alloc::Global;
@@ -84,9 +85,9 @@ impl<'s, 'a> Drawing<'s, 'a> {
             replanned.cost
         };
         let agent = replanned.constraint.agent;
-        let mut bars = Vec::new(self.alloc);
-        add_bars(&mut bars, self.nodes, number, agent)?;
-        let entries = self.finder.labels(agent, &bars, value)?;
+        let mut constraints = ConstraintSet::new(self.alloc);
+        gather(&mut constraints, self.nodes, number, agent)?;
+        let entries = self.finder.labels(agent, &constraints, value)?;
         blocks.push(Block { agent, entries })?;
         Ok(blocks)
     }

@@ -1,7 +1,8 @@
 //! The layers of an agent and its labels, found anew for each set of constraints, with the tables that all of them share.
 use mapf_distance::Distances;
-use mapf_layers::{Arrival, LayerTask, Layers, Workspace};
-use mapf_model::{Agent, Entry, Neighbourhoods, OutOfMemory, Problem};
+use mapf_layers::{ConstraintSet, LayerTask, Layers, Workspace};
+use mapf_lemmas::PricedEntry;
+use mapf_model::{Agent, Entry, Label, Neighbourhoods, OutOfMemory, Problem};
 use std::alloc::Global;
 
 /// The agents of a problem, and the memory in which their layers and labels are found.
@@ -33,12 +34,12 @@ impl<'a> LayerFinder<'a> {
         })
     }
 
-    /// Returns the layers of the agent under these constraints, which rise, None if it can't arrive. A path is expected
+    /// Returns the layers of the agent under these constraints, None if it can't arrive. A path is expected
     /// to cost at least so much, in ticks.
     pub fn layers(
         &mut self,
         agent: u32,
-        bars: &[Arrival],
+        constraints: &ConstraintSet,
         expected: u32,
     ) -> Result<Option<Layers>, OutOfMemory> {
         let Some(who) = self.make_table(agent)? else {
@@ -51,7 +52,7 @@ impl<'a> LayerFinder<'a> {
             neighbourhoods: &self.neighbourhoods,
             distances,
             agent: who,
-            bars,
+            constraints,
         };
         self.workspace.layers(self.alloc, &task, expected)
     }
@@ -61,7 +62,7 @@ impl<'a> LayerFinder<'a> {
     pub fn labels(
         &mut self,
         agent: u32,
-        bars: &[Arrival],
+        constraints: &ConstraintSet,
         value: Option<u32>,
     ) -> Result<Vec<Entry>, OutOfMemory> {
         let Some(who) = self.make_table(agent)? else {
@@ -74,9 +75,14 @@ impl<'a> LayerFinder<'a> {
             neighbourhoods: &self.neighbourhoods,
             distances,
             agent: who,
-            bars,
+            constraints,
         };
-        self.workspace.labels(self.alloc, &task, value)
+        let priced = self.workspace.labels(self.alloc, &task, value)?;
+        let mut entries = Vec::with_capacity(self.alloc, priced.len())?;
+        for entry in &priced {
+            entries.push(unpriced(entry))?;
+        }
+        Ok(entries)
     }
 
     // Makes the agent's table of distances if it isn't made yet. Returns the agent, None if there is none.
@@ -91,5 +97,18 @@ impl<'a> LayerFinder<'a> {
             }
         }
         Ok(Some(who))
+    }
+}
+
+// Returns the entry of a certificate of version 2.
+fn unpriced(entry: &PricedEntry) -> Entry {
+    let label = match entry.label.units() {
+        Some(ticks) => Label::Ticks(u32::try_from(ticks).unwrap_or(u32::MAX)),
+        None => Label::Never,
+    };
+    Entry {
+        cell: entry.cell,
+        tick: entry.tick,
+        label,
     }
 }

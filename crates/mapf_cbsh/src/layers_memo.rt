@@ -1,15 +1,16 @@
 //! The layers of agents, kept by agent and set of constraints, since many nodes share them.
 use crate::layer_finder::LayerFinder;
-use mapf_layers::{Arrival, Layers};
+use mapf_layers::{ConstraintSet, Layers};
 use mapf_model::{OutOfMemory, Problem};
 use std::alloc::Global;
 use std::collections::HashMap;
+use std::mem;
 
-/// An agent, and what its constraints forbid, in rising order.
+/// An agent and its constraints.
 #[derive(Debug, PartialEq, Eq, Hash, Drop)]
 struct Key {
     agent: u32,
-    bars: Vec<Arrival>,
+    constraints: ConstraintSet,
 }
 
 /// Layers by their numbers.
@@ -33,40 +34,51 @@ impl<'a> LayersMemo<'a> {
             numbers: HashMap::new(alloc),
             key: Key {
                 agent: 0,
-                bars: Vec::new(alloc),
+                constraints: ConstraintSet::new(alloc),
             },
             layers: Vec::new(alloc),
         })
     }
 
-    /// Returns the number of the layers of the agent under these constraints, which rise. A path is expected to cost at
-    /// least so much, in ticks.
+    /// Returns the number of the layers of the agent under these constraints. A path is expected to cost at least so
+    /// much, in ticks.
     pub fn number_of(
         &mut self,
         agent: u32,
-        bars: &[Arrival],
+        constraints: &mut ConstraintSet,
         expected: u32,
     ) -> Result<u32, OutOfMemory> {
         self.key.agent = agent;
-        self.key.bars.clear();
-        self.key.bars.extend_from_slice(bars)?;
-        if let Some(&number) = self.numbers.get(&self.key) {
-            return Ok(number);
+        mem::swap(&mut self.key.constraints, constraints);
+        let known = self.numbers.get(&self.key).copied();
+        mem::swap(&mut self.key.constraints, constraints);
+        match known {
+            Some(number) => Ok(number),
+            None => self.add(agent, constraints, expected),
         }
-        let layers = self.finder.layers(agent, bars, expected)?;
-        let number = u32::try_from(self.layers.len()).map_err(|_| OutOfMemory)?;
-        self.layers.push(layers)?;
-        let key = Key {
-            agent,
-            bars: Vec::from_slice(self.alloc, bars)?,
-        };
-        self.numbers.insert(key, number)?;
-        Ok(number)
     }
 
     /// Returns the layers of a number, None if their agent can't arrive.
     pub fn get(&self, number: u32) -> Option<&Layers> {
         self.layers.get(number as usize)?.as_ref()
+    }
+
+    // Finds the layers of an agent, and returns their number.
+    fn add(
+        &mut self,
+        agent: u32,
+        constraints: &ConstraintSet,
+        expected: u32,
+    ) -> Result<u32, OutOfMemory> {
+        let layers = self.finder.layers(agent, constraints, expected)?;
+        let number = u32::try_from(self.layers.len()).map_err(|_| OutOfMemory)?;
+        self.layers.push(layers)?;
+        let key = Key {
+            agent,
+            constraints: constraints.duplicate(self.alloc)?,
+        };
+        self.numbers.insert(key, number)?;
+        Ok(number)
     }
 
     /// Drops the layers, and returns what finds them.

@@ -4,8 +4,8 @@ use crate::conflict_count::{ConflictCounter, pair_of};
 use crate::layers_memo::LayersMemo;
 use crate::node::{NewPath, Replanned};
 use crate::search_tree::{Child, SearchTree};
-use crate::view::{View, add_bars};
-use mapf_layers::{Arrival, BestSteps, ConflictAvoidanceTable};
+use crate::view::{View, add_constraint, gather};
+use mapf_layers::{BestSteps, ConflictAvoidanceTable, ConstraintSet};
 use mapf_model::{Conflict, Constraint, OutOfMemory, Path, Plan, Problem};
 use std::alloc::Global;
 
@@ -21,8 +21,8 @@ pub struct Searcher<'a> {
     // By agent, the number of its path in the table.
     placed: Vec<Option<u32>>,
     steps: BestSteps,
-    // What the constraints of the agent that is replanned forbid.
-    bars: Vec<Arrival>,
+    // The constraints of the agent that is replanned.
+    constraints: ConstraintSet,
     // How many paths were made.
     paths: u32,
 }
@@ -52,7 +52,7 @@ impl<'a> Searcher<'a> {
             table: ConflictAvoidanceTable::of(alloc, agents)?,
             placed: vec![in alloc; None; count]?,
             steps: BestSteps::of(alloc, problem.grid())?,
-            bars: Vec::new(alloc),
+            constraints: ConstraintSet::new(alloc),
             paths: 0,
         })
     }
@@ -173,7 +173,8 @@ impl<'a> Searcher<'a> {
     // Finds the agent's layers without constraints, if it has none at the node that is looked at.
     fn find_root_layers(&mut self, agent: u32) -> Result<(), OutOfMemory> {
         if self.view.layers(agent).is_none() {
-            let number = self.memo.number_of(agent, &[], 0)?;
+            self.constraints.reset();
+            let number = self.memo.number_of(agent, &mut self.constraints, 0)?;
             self.view.note_root_layers(agent, number);
         }
         Ok(())
@@ -201,10 +202,10 @@ impl<'a> Searcher<'a> {
     fn child(&mut self, number: u32, constraint: Constraint) -> Result<Child, OutOfMemory> {
         let agent = constraint.agent;
         let before = self.cost_of(agent);
-        self.bars.clear();
-        self.bars.push(Arrival::of(constraint.bar))?;
-        add_bars(&mut self.bars, &self.tree.nodes, number, agent)?;
-        let layers = self.memo.number_of(agent, &self.bars, before)?;
+        self.constraints.reset();
+        add_constraint(&mut self.constraints, constraint.bar)?;
+        gather(&mut self.constraints, &self.tree.nodes, number, agent)?;
+        let layers = self.memo.number_of(agent, &mut self.constraints, before)?;
         let mut child = Child {
             replanned: Replanned {
                 constraint,

@@ -1,8 +1,9 @@
 //! What holds at a node, read off it and its ancestors: each agent's path and layers, and the conflicts.
 use crate::conflict_count::pair_of;
 use crate::node::{NewPath, Node};
-use mapf_layers::Arrival;
-use mapf_model::{Conflict, OutOfMemory};
+use mapf_layers::ConstraintSet;
+use mapf_lemmas::PathConstraint;
+use mapf_model::{Bar, Conflict, OutOfMemory};
 use std::alloc::Global;
 
 /// Which of a node's paths is an agent's.
@@ -127,9 +128,9 @@ impl View {
     }
 }
 
-/// Adds what the agent's constraints at a node forbid to these arrivals, and puts all in rising order.
-pub fn add_bars(
-    bars: &mut Vec<Arrival>,
+/// Adds the agent's constraints at a node to the set.
+pub fn gather(
+    set: &mut ConstraintSet,
     nodes: &[Node],
     number: u32,
     agent: u32,
@@ -141,7 +142,7 @@ pub fn add_bars(
         };
         if let Some(replanned) = &node.replanned {
             if replanned.constraint.agent == agent {
-                bars.push(Arrival::of(replanned.constraint.bar))?;
+                add_constraint(set, replanned.constraint.bar)?;
             }
         }
         if node.parent == at {
@@ -149,6 +150,14 @@ pub fn add_bars(
         }
         at = node.parent;
     }
-    bars.sort_unstable();
+    set.tidy();
     Ok(())
+}
+
+/// Adds a constraint to the set.
+pub fn add_constraint(set: &mut ConstraintSet, bar: Bar) -> Result<(), OutOfMemory> {
+    match bar {
+        Bar::Cell { cell, tick } => set.add(PathConstraint::NotAt { cell, tick }),
+        Bar::Move { from, to, tick } => set.add(PathConstraint::NotMove { from, to, tick }),
+    }
 }
