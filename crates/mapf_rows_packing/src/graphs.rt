@@ -29,7 +29,10 @@ fn packs_pairs_of_one_component(rt: HostRuntime) -> Result<(), Fail> {
     let alloc = rt.alloc();
     let triangle = pairs(alloc, &[(0, 1, 1), (1, 2, 1), (0, 2, 1)])?;
     let star = pairs(alloc, &[(0, 1, 1), (0, 2, 1), (0, 3, 1)])?;
-    let cycle = pairs(alloc, &[(0, 1, 1), (1, 2, 1), (2, 3, 1), (3, 4, 1), (0, 4, 1)])?;
+    let cycle = pairs(
+        alloc,
+        &[(0, 1, 1), (1, 2, 1), (2, 3, 1), (3, 4, 1), (0, 4, 1)],
+    )?;
     let chain = pairs(alloc, &[(0, 1, 2), (1, 2, 3), (2, 3, 2)])?;
     assert_sum(&rt, alloc, &triangle, 2)?;
     assert_sum(&rt, alloc, &star, 1)?;
@@ -56,7 +59,14 @@ fn far_triangles_round_up_by_themselves(rt: HostRuntime) -> Result<(), Fail> {
     let alloc = rt.alloc();
     let far = pairs(
         alloc,
-        &[(0, 1, 1), (1, 2, 1), (0, 2, 1), (5, 6, 1), (6, 7, 1), (5, 7, 1)],
+        &[
+            (0, 1, 1),
+            (1, 2, 1),
+            (0, 2, 1),
+            (5, 6, 1),
+            (6, 7, 1),
+            (5, 7, 1),
+        ],
     )?;
     let linked = pairs(
         alloc,

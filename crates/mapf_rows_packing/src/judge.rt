@@ -76,8 +76,5 @@ fn worth(excesses: &[Excess], group: &PackedGroup) -> u64 {
     }
     let divisor = u64::from(group.divisor);
     let rest = u64::from(total.checked_rem(divisor) != Some(0));
-    total
-        .checked_div(divisor)
-        .unwrap_or(0)
-        .saturating_add(rest)
+    total.checked_div(divisor).unwrap_or(0).saturating_add(rest)
 }

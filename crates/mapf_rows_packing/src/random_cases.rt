@@ -53,12 +53,7 @@ fn sets_are_packed_well(rt: HostRuntime) -> Result<(), Fail> {
 }
 
 /// The packings of drawn excesses keep the rules, and are the same when they are made again.
-fn assert_kept(
-    rt: &impl Abort,
-    alloc: Global,
-    shape: Shape,
-    seeds: u64,
-) -> Result<(), Fail> {
+fn assert_kept(rt: &impl Abort, alloc: Global, shape: Shape, seeds: u64) -> Result<(), Fail> {
     let mut packer = Packer::of(alloc, shape.agents)?;
     for seed in 0..seeds {
         let excesses = drawn(alloc, shape, seed)?;
