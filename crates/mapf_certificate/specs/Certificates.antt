@@ -1,4 +1,4 @@
--- How a certificate is spelled.
+-- How a certificate of version 1 or 2 is spelled.
 use Rattle.std.specs.Prelude.{◌≡◌, ℕ, ◌<◌, List, [], ◌∷◌, ◌++◌, length, All, Option, Some, None}
 use Rattle.std.specs.List.{flat_map}
 use Rattle.mapf_model.specs.declared.item.Claim.{Claim}
@@ -110,7 +110,7 @@ pub record IsRest (version : Version) (grid : GridMap) (agents pending : ℕ) (n
   pub same : nodes ≡ nodes_of_all trees
   pub spelled : bytes ≡ rest_text version grid.width nodes
 
--- no bytes spell two certificates, neither in one version nor in two
+-- no bytes spell two certificates of version 1 or 2, neither in one version nor in both
 abbrev pub SpellsOneCert : Type 0
 SpellsOneCert =
     (grid : GridMap) (bytes : List ℕ) (version version' : Version) (agents agents' : ℕ) (claim claim' : Claim)

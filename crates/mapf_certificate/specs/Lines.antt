@@ -1,4 +1,4 @@
--- The lines of a certificate: how they are spelled, and in which ranges.
+-- The lines of a certificate of version 1 or 2: how they are spelled, and in which ranges.
 use Rattle.std.specs.Prelude.{◌≡◌, ◌≤◌, ◌<◌, ℕ, ◌^◌, List, [], ◌++◌, codes, Option, Some, None, ⊤}
 use Rattle.mapf_model.specs.declared.item.Claim.{Claim}
 use Rattle.mapf_model.specs.declared.item.Claim.TheVariants as claims
@@ -91,12 +91,12 @@ IsTreeLine version grid agents (lines.Agent agent entries) = (agent < agents) ×
 IsTreeLine version grid agents (lines.At entry) = IsEntryInRange grid entry
 IsTreeLine version grid agents lines.End = ⊤
 
--- the first line, of any version
+-- the first line, of version 1 or 2
 abbrev pub IsTitleLine : CertLine → Type 0
 IsTitleLine (lines.Title version) = ⊤
 IsTitleLine _ = ⊥
 
--- what may be claimed: a bound in version 2 only
+-- what may be claimed in version 1 or 2: a bound in version 2 only
 abbrev pub IsClaimOfVersion : Version → Claim → Type 0
 IsClaimOfVersion One (claims.Cost cost) = Unit {0}
 IsClaimOfVersion One (claims.Bound bound) = ⊥
