@@ -49,7 +49,7 @@ fn collect<S: Source>(
     })
 }
 
-/// Reads a certificate for a grid of this size.
+/// Reads a certificate of version 1 or 2 for a grid of this size.
 pub fn read_cert(alloc: Global, bytes: &[u8], grid: &Grid) -> Result<Cert, CertFault>
     // If a certificate is returned, the bytes spell it, in range.
     ensures found { IfOk result (IsSpelled grid.now bytes.now) }

@@ -2,7 +2,7 @@
 ghost use Rattle.mapf_certificate.specs.Certificates.{SpellsOneCert};
 ghost use Rattle.mapf_certificate.specs.Plans.{SpellsOnePlan};
 
-/// On one grid no text spells two certificates.
+/// On one grid no text spells two certificates of version 1 or 2.
 pub fn certificates_are_spelled_apart()
     ensures { SpellsOneCert }
 {}
