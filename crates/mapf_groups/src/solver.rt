@@ -1,0 +1,96 @@
+//! The search for an optimal plan, from the problem to the certificate.
+ghost use Rattle.std.specs.Prelude.{◌≤◌};
+ghost use Rattle.mapf_model.specs.Limits.{most_splits};
+
+use crate::begin::impossible;
+use crate::expand::Ended;
+use crate::outcome::Outcome;
+use crate::searcher::Searcher;
+use mapf_model::{Cause, OutOfMemory, Path, Plan, Problem, Unwatched, Watcher};
+use mapf_nodes::{Members, SearchTree};
+use mapf_tree_lemmas::certificate;
+use std::alloc::Global;
+
+/// Searches for an optimal plan, with at most `limit` splits: 0 to 100,000. A bypass is no split. Out of memory is the
+/// only error.
+pub fn search(alloc: Global, problem: &Problem, limit: u32) -> Result<Outcome, OutOfMemory>
+    requires { limit ≤ most_splits }
+{
+    search_watched(alloc, problem, limit, &mut Unwatched)
+}
+
+/// Searches as `search` does, and tells the watcher how far it is.
+pub fn search_watched<W: Watcher>(
+    alloc: Global,
+    problem: &Problem,
+    limit: u32,
+    watcher: &mut W,
+) -> Result<Outcome, OutOfMemory>
+    requires { limit ≤ most_splits }
+{
+    if let Some(parts) = impossible(alloc, problem)? {
+        return Ok(Outcome::Impossible { parts });
+    }
+    let tree = tree_of_all(alloc, problem)?;
+    let mut searcher = Searcher::of(alloc, problem, tree, limit)?;
+    searcher.plant()?;
+    let ended = searcher.run(watcher)?;
+    end(searcher, ended)
+}
+
+// Returns the tree of all agents without nodes.
+fn tree_of_all(alloc: Global, problem: &Problem) -> Result<SearchTree, OutOfMemory> {
+    let count = problem.agents().len();
+    let mut agents = Vec::new(alloc);
+    for place in 0..count {
+        agents.push(u32::try_from(place).map_err(|_| OutOfMemory)?)?;
+    }
+    let members = Members::of(alloc, agents, count)?;
+    Ok(SearchTree::new(alloc, members, Vec::new(alloc)))
+}
+
+// Returns the outcome of a search that has ended.
+fn end(mut searcher: Searcher, ended: Ended) -> Result<Outcome, OutOfMemory> {
+    let bound = searcher.tree.bound;
+    match ended {
+        Ended::Plan(paths) => match plan_of(&searcher, &paths)? {
+            Some((plan, cost)) => Ok(Outcome::Found {
+                plan,
+                parts: certificate(&mut searcher.store, &searcher.tree, cost)?,
+            }),
+            None => limited(searcher, Cause::Ticks, bound),
+        },
+        Ended::AtLimit(cause) => limited(searcher, cause, bound),
+        // Each leaf is dead, but the labels of an agent whose goal is cut off for good would never end.
+        Ended::Exhausted => limited(searcher, Cause::Ticks, bound),
+    }
+}
+
+fn limited(mut searcher: Searcher, cause: Cause, bound: u64) -> Result<Outcome, OutOfMemory> {
+    Ok(Outcome::Limit {
+        cause,
+        bound,
+        parts: certificate(&mut searcher.store, &searcher.tree, bound)?,
+    })
+}
+
+// Returns the plan of these paths, without waits at their ends, and its sum of costs. None if one of them doesn't end
+// at its agent's goal.
+fn plan_of(searcher: &Searcher, numbers: &[u32]) -> Result<Option<(Plan, u64)>, OutOfMemory> {
+    let mut paths = Vec::new(searcher.alloc);
+    let mut sum = 0u64;
+    for (&number, agent) in numbers.iter().zip(searcher.problem.agents()) {
+        let cells = searcher.store.paths.cells(number);
+        let arrival = cells.iter().rposition(|&cell| cell != agent.goal);
+        let cost = arrival.map_or(0, |place| place.saturating_add(1));
+        let Some(kept) = cells.get(..=cost) else {
+            return Ok(None);
+        };
+        let Some(path) = Path::of(Vec::from_slice(searcher.alloc, kept)?) else {
+            return Ok(None);
+        };
+        paths.push(path)?;
+        sum = sum.saturating_add(cost as u64);
+    }
+    Ok(Plan::of(paths).map(|plan| (plan, sum)))
+}
