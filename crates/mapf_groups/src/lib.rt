@@ -3,9 +3,9 @@
 //!
 //! A node knows what each agent costs alone under its constraints, and of pairs in conflict what both cost at least
 //! together (Li et al. 2019). Where agents are in several such pairs, the excesses are packed (`mapf_packing`). Nodes
-//! are expanded by the least bound, then by the fewest pairs in conflict, then the newest first. If a pair costs no more
-//! together than alone, its two paths take the place of the node's where fewer conflicts are left, and so do the paths
-//! of a child of the same sum: no split is needed then (a bypass, Boyarski et al. 2015).
+//! are expanded by the least bound, then by the fewest pairs in conflict, then the newest first. If a pair costs no
+//! more together than alone, its two paths take the place of the node's where fewer conflicts are left, and so do the
+//! paths of a child of the same sum: no split is needed then (a bypass, Boyarski et al. 2015).
 //!
 //! A conflict with an agent that rests at its goal is split on that agent's cost (Li et al. 2021a). So is the conflict
 //! of a pair that costs one tick more together than alone: if the one agent keeps its cost, the other costs more. All

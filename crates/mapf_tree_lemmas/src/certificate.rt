@@ -23,8 +23,8 @@ struct Drawing {
     groups: Vec<Option<u64>>,
 }
 
-/// Returns the parts of the certificate that shows by the tree of all agents that no valid plan has a smaller sum of costs
-/// than the claim, in ticks.
+/// Returns the parts of the certificate that shows by the tree of all agents that no valid plan has a smaller sum of
+/// costs than the claim, in ticks.
 pub fn certificate(
     store: &mut Store,
     tree: &SearchTree,
