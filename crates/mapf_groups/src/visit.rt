@@ -34,7 +34,9 @@ pub struct Visit {
     conflicts: Vec<Conflict>,
     // By agent, whether its path is of a group that is solved, or the agent is alone.
     is_solved: Vec<bool>,
-    // By the place that names a group, how much more its agents cost together than alone, and whether it was searched.
+    // By the place that names a group, how many agents it has, how much more these cost together than alone, and whether
+    // it was searched.
+    sizes: Vec<usize>,
     excesses: Vec<u64>,
     is_done: Vec<bool>,
 }
@@ -59,6 +61,7 @@ impl Visit {
             paths: Vec::from_slice(alloc, &node.paths)?,
             conflicts: Vec::from_slice(alloc, &node.conflicts)?,
             is_solved: vec![in alloc; true; count]?,
+            sizes: vec![in alloc; 1; count]?,
             excesses: vec![in alloc; 0; count]?,
             is_done: vec![in alloc; false; count]?,
         })
@@ -103,7 +106,7 @@ impl Visit {
 
     // Returns how many agents the group with this name has.
     fn size(&self, name: usize) -> usize {
-        self.parts.iter().filter(|&&part| part == name).count()
+        self.sizes.get(name).copied().unwrap_or(0)
     }
 
     // Unites the groups of two agents, if they may be. Returns whether it did.
@@ -118,6 +121,12 @@ impl Visit {
             if *part == other {
                 *part = name;
             }
+        }
+        if let Some(entry) = self.sizes.get_mut(name) {
+            *entry = size;
+        }
+        if let Some(entry) = self.sizes.get_mut(other) {
+            *entry = 0;
         }
         if let Some(entry) = self.is_done.get_mut(name) {
             *entry = false;
