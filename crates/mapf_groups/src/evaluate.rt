@@ -54,26 +54,25 @@ impl<'a> Searcher<'a> {
         let Some(node) = self.tree.nodes.get(number as usize) else {
             return Ok(());
         };
-        for fact in &node.pairs {
-            facts.push(Fact::Pair(*fact))?;
-        }
-        for fact in &node.groups {
-            facts.push(Fact::Group(*fact))?;
-        }
         let costs = Costs {
             store: &self.store,
             members: &self.tree.members,
         };
-        facts.retain(|fact| fact.bound() > costs.alone(node, fact));
-        for fact in facts.iter() {
-            let excess = fact.bound().saturating_sub(costs.alone(node, fact));
-            match fact {
-                Fact::Pair(pair) => self.packings.add(&[pair.i, pair.j], excess)?,
-                Fact::Group(group) => {
-                    if let Some(known) = self.store.groups.get(group.group) {
-                        self.packings.add(&known.agents, excess)?;
-                    }
-                }
+        for fact in &node.pairs {
+            let excess = costs.pair_excess(node, fact);
+            if excess > 0 {
+                facts.push(Fact::Pair(*fact))?;
+                self.packings.add(&[fact.i, fact.j], excess)?;
+            }
+        }
+        for fact in &node.groups {
+            let Some(group) = self.store.groups.get(fact.group) else {
+                continue;
+            };
+            let excess = fact.bound.saturating_sub(costs.sum(node, &group.agents));
+            if excess > 0 {
+                facts.push(Fact::Group(*fact))?;
+                self.packings.add(&group.agents, excess)?;
             }
         }
         Ok(())
