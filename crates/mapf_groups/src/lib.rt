@@ -25,9 +25,11 @@
 #![tactic(auto)]
 
 mod begin;
+mod blocking;
 mod evaluate;
 mod expand;
 mod group_search;
+mod joint_cells;
 mod outcome;
 mod searcher;
 mod solver;

@@ -34,6 +34,9 @@ pub fn search_watched<W: Watcher>(
     let tree = tree_of_all(alloc, problem)?;
     let mut searcher = Searcher::of(alloc, problem, tree, limit)?;
     searcher.plant()?;
+    if let Some(parts) = searcher.blocking()? {
+        return Ok(Outcome::Impossible { parts });
+    }
     let ended = searcher.run(watcher)?;
     end(searcher, ended)
 }

@@ -153,6 +153,11 @@ impl<'a> Singles<'a> {
         Ok(goal.zip(start))
     }
 
+    /// Returns the distances to the agent's goal, None if they weren't made yet.
+    pub fn to_goal(&self, agent: u32) -> Option<&Distances> {
+        table_of(&self.from_goals, agent)
+    }
+
     /// Makes the labels of the states of an agent, if they weren't made yet.
     pub fn make_labels(&mut self, number: u32) -> Result<(), OutOfMemory> {
         let Some(single) = self.list.get_mut(number as usize) else {

@@ -1,6 +1,6 @@
 //! Certificates that show without a search that no plan is valid.
-use mapf_lemma_texts::{Part, TwoLemma};
-use mapf_lemmas::{Amount, Group, JointEntry, JointState, LeafUses, Use};
+use mapf_lemma_texts::{NeverLemma, Part, TwoLemma};
+use mapf_lemmas::{Amount, Group, JointCell, JointEntry, JointState, LeafUses, Use};
 use mapf_model::{Cell, OutOfMemory};
 use std::alloc::Global;
 
@@ -16,6 +16,18 @@ pub fn same_start(
     start: Cell,
 ) -> Result<Vec<Part>, OutOfMemory> {
     let lemma = never_both(alloc, agents, start)?;
+    let leaf = leaf_with(alloc, Some(0))?;
+    parts_of(alloc, Some(lemma), leaf)
+}
+
+/// Returns the parts of a certificate that shows that no plan is valid, since two agents never leave these joint cells,
+/// which rise and don't have both goals.
+pub fn never_left(
+    alloc: Global,
+    (i, j): (u32, u32),
+    cells: Vec<JointCell>,
+) -> Result<Vec<Part>, OutOfMemory> {
+    let lemma = Part::Never(NeverLemma { i, j, cells });
     let leaf = leaf_with(alloc, Some(0))?;
     parts_of(alloc, Some(lemma), leaf)
 }

@@ -7,8 +7,8 @@
 //! A lemma shows no more than some leaf or split uses (`Needs`). So what the leaves use is found first: from the tree
 //! of all agents down to the smallest groups, each of which uses smaller ones alone.
 //!
-//! Where no plan is valid, as two agents have one goal or one start, or an agent has no way to its goal, a certificate
-//! of one node shows it (`same_goal`, `same_start`, `no_way`).
+//! Where no plan is valid, as two agents have one goal or one start, or block each other for good, or an agent has no
+//! way to its goal, a certificate of one node shows it (`same_goal`, `same_start`, `never_left`, `no_way`).
 //!
 //! Nothing is promised of the certificate: a checker that is proved judges it. What is proved is that each call
 //! returns, within its ranges.
@@ -19,4 +19,4 @@ mod impossible;
 mod needs;
 
 pub use certificate::certificate;
-pub use impossible::{no_way, same_goal, same_start};
+pub use impossible::{never_left, no_way, same_goal, same_start};
