@@ -50,6 +50,8 @@ pub struct Singles<'a> {
     // The key that is looked up.
     key: Key,
     list: Vec<Single>,
+    // By number, what the agent costs. Bounds are compared by it at each node.
+    costs: Vec<Option<u32>>,
 }
 
 impl<'a> Singles<'a> {
@@ -76,6 +78,7 @@ impl<'a> Singles<'a> {
                 constraints: ConstraintSet::new(alloc),
             },
             list: Vec::new(alloc),
+            costs: Vec::new(alloc),
         })
     }
 
@@ -108,7 +111,7 @@ impl<'a> Singles<'a> {
 
     /// Returns the cost of the agent of a number, in ticks, None if it can't arrive.
     pub fn cost(&self, number: u32) -> Option<u32> {
-        self.get(number)?.cost()
+        self.costs.get(number as usize).copied().flatten()
     }
 
     /// Returns how far it is from the start of the agent of a number to its goal, in ticks. 0 if no steps lead there.
@@ -269,6 +272,7 @@ impl<'a> Singles<'a> {
             None => None,
         };
         let number = u32::try_from(self.list.len()).map_err(|_| OutOfMemory)?;
+        self.costs.push(layers.as_ref().map(|layers| layers.cost()))?;
         self.list.push(Single {
             agent,
             constraints: constraints.duplicate(self.alloc)?,
