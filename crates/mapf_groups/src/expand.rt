@@ -51,10 +51,14 @@ impl<'a> Searcher<'a> {
         Ok(Ended::AtLimit(Cause::Splits(self.limit)))
     }
 
-    // Tells the watcher how far the search is, after each 256 splits.
+    // Tells the watcher how far the search of the tree of all agents is, after each 256 splits in any tree.
     fn tell<W: Watcher>(&self, watcher: &mut W) {
         if self.splits % 256 == 0 {
-            watcher.note(self.splits, self.tree.bound, self.tree.open.count());
+            let tree = match self.suspended.first() {
+                Some(outermost) => outermost.tree(),
+                None => &self.tree,
+            };
+            watcher.note(self.splits, tree.bound, tree.open.count());
         }
     }
 

@@ -58,6 +58,13 @@ pub struct Suspended {
     begin: u64,
 }
 
+impl Suspended {
+    /// Returns the tree whose node is visited.
+    pub fn tree(&self) -> &SearchTree {
+        &self.tree
+    }
+}
+
 impl<'a> Searcher<'a> {
     /// Goes on with a visit until a group has to be searched, or it is over.
     pub fn go_on(&mut self, mut visit: Visit) -> Result<Step, OutOfMemory> {
