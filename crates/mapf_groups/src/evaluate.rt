@@ -30,27 +30,49 @@ impl<'a> Searcher<'a> {
 
     /// Raises the bound of a node by what is known of its pairs and groups.
     pub fn raise_bound(&mut self, number: u32) -> Result<(), OutOfMemory> {
-        let mut facts = Vec::new(self.alloc);
-        self.packings.begin();
-        self.list_facts(number, &mut facts)?;
+        self.list_facts(number)?;
         let packing = self.packings.find()?;
         let Some(node) = self.tree.nodes.get_mut(number as usize) else {
             return Ok(());
         };
         let bound = node.base.saturating_add(packing.sum);
+        if bound < node.bound {
+            return self.inherit_shown(number);
+        }
         if packing.sum > 0 && (bound > node.bound || node.shown.is_empty()) {
             let mut shown = Vec::with_capacity(self.alloc, packing.groups.len())?;
             for group in &packing.groups {
-                shown.push(group_of(self.alloc, group, &facts)?)?;
+                shown.push(group_of(self.alloc, group, &self.facts)?)?;
             }
             node.shown = shown;
         }
-        node.bound = node.bound.max(bound);
+        node.bound = bound;
+        Ok(())
+    }
+
+    // Lets what shows the bound of a node's parent show that of the node, unless something else does: the bounds hold
+    // there too, and the agents cost alone at least as much. A packing that is found anew may be a lesser one.
+    fn inherit_shown(&mut self, number: u32) -> Result<(), OutOfMemory> {
+        let Some(node) = self.tree.node(number) else {
+            return Ok(());
+        };
+        let (true, Some(parent)) = (node.shown.is_empty(), self.tree.node(node.parent)) else {
+            return Ok(());
+        };
+        let mut shown = Vec::with_capacity(self.alloc, parent.shown.len())?;
+        for group in &parent.shown {
+            shown.push(group.duplicate(self.alloc)?)?;
+        }
+        if let Some(node) = self.tree.node_mut(number) {
+            node.shown = shown;
+        }
         Ok(())
     }
 
     // Lists the pairs and groups that cost more together than alone.
-    fn list_facts(&mut self, number: u32, facts: &mut Vec<Fact>) -> Result<(), OutOfMemory> {
+    fn list_facts(&mut self, number: u32) -> Result<(), OutOfMemory> {
+        self.facts.clear();
+        self.packings.begin();
         let Some(node) = self.tree.nodes.get(number as usize) else {
             return Ok(());
         };
@@ -61,7 +83,7 @@ impl<'a> Searcher<'a> {
         for fact in &node.pairs {
             let excess = costs.pair_excess(node, fact);
             if excess > 0 {
-                facts.push(Fact::Pair(*fact))?;
+                self.facts.push(Fact::Pair(*fact))?;
                 self.packings.add(&[fact.i, fact.j], excess)?;
             }
         }
@@ -71,7 +93,7 @@ impl<'a> Searcher<'a> {
             };
             let excess = fact.bound.saturating_sub(costs.sum(node, &group.agents));
             if excess > 0 {
-                facts.push(Fact::Group(*fact))?;
+                self.facts.push(Fact::Group(*fact))?;
                 self.packings.add(&group.agents, excess)?;
             }
         }

@@ -4,7 +4,7 @@ use crate::visit::Visit;
 use mapf_layers::ConstraintSet;
 use mapf_model::{Conflict, OutOfMemory, Path, Problem};
 use mapf_nodes::{
-    Added, ConflictCount, Costs, LABEL_DEPTH, Node, NodeState, Packings, Placed, SearchTree, Store,
+    Added, ConflictCount, Costs, Fact, LABEL_DEPTH, Node, NodeState, Packings, Placed, SearchTree, Store,
     add_relevant, is_of, pair_of,
 };
 use std::alloc::Global;
@@ -21,6 +21,8 @@ pub struct Searcher<'a> {
     // What stands for an agent at a node, and those of it that matter for its cheapest paths.
     pub standing: ConstraintSet,
     relevant: ConstraintSet,
+    /// The bounds of a node that are packed.
+    pub facts: Vec<Fact>,
     /// How many nodes were split, and how many may be.
     pub splits: u32,
     pub limit: u32,
@@ -56,6 +58,7 @@ impl<'a> Searcher<'a> {
             tree,
             standing: ConstraintSet::new(alloc),
             relevant: ConstraintSet::new(alloc),
+            facts: Vec::new(alloc),
             splits: 0,
             limit,
             work: 0,

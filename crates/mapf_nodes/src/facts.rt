@@ -1,4 +1,6 @@
 //! Lower bounds on the sums of costs of some agents of a node, and how they add up to its bound.
+use mapf_model::OutOfMemory;
+use std::alloc::Global;
 
 /// A bound of two agents, which holds at a node and below it.
 #[derive(Clone, Copy, Debug)]
@@ -50,4 +52,14 @@ pub struct WeightedFact {
 pub struct FactGroup {
     pub divisor: u32,
     pub uses: Vec<WeightedFact>,
+}
+
+impl FactGroup {
+    /// Returns the same group once more.
+    pub fn duplicate(&self, alloc: Global) -> Result<FactGroup, OutOfMemory> {
+        Ok(FactGroup {
+            divisor: self.divisor,
+            uses: Vec::from_slice(alloc, &self.uses)?,
+        })
+    }
 }
