@@ -37,10 +37,8 @@ impl<'a> Searcher<'a> {
         let Some(pair) = store.pairs.number_of(&mut store.singles, first, second)? else {
             return Ok(false);
         };
-        Ok(store
-            .pairs
-            .get(pair)
-            .is_some_and(|known| known.paths().is_some()))
+        let known = store.pairs.get(pair);
+        Ok(known.is_some_and(|known| known.paths().is_some()))
     }
 
     // Returns the joint cells in which two agents can be, in rising order. None if both goals are among them, or there are

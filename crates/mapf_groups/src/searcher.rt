@@ -4,8 +4,8 @@ use crate::visit::Visit;
 use mapf_layers::ConstraintSet;
 use mapf_model::{Conflict, OutOfMemory, Path, Problem};
 use mapf_nodes::{
-    Added, ConflictCount, Costs, Fact, LABEL_DEPTH, Node, NodeState, Packings, Placed, SearchTree, Store,
-    add_relevant, is_of, pair_of,
+    Added, ConflictCount, Costs, Fact, LABEL_DEPTH, Node, NodeState, Packings, Placed, SearchTree,
+    Store, add_relevant, is_of, pair_of,
 };
 use std::alloc::Global;
 

@@ -272,7 +272,8 @@ impl<'a> Singles<'a> {
             None => None,
         };
         let number = u32::try_from(self.list.len()).map_err(|_| OutOfMemory)?;
-        self.costs.push(layers.as_ref().map(|layers| layers.cost()))?;
+        self.costs
+            .push(layers.as_ref().map(|layers| layers.cost()))?;
         self.list.push(Single {
             agent,
             constraints: constraints.duplicate(self.alloc)?,
