@@ -90,7 +90,7 @@ impl Spread {
         self.next.clear();
         for place in 0..self.open.len() {
             if let Some(&cell) = self.open.get(place) {
-                if self.is_there(places, cell) {
+                if self.was_there(places, cell, tick) {
                     self.leave(task, places, &rules, cell)?;
                 }
             }
@@ -211,6 +211,17 @@ impl Spread {
             .and_then(|place| self.cells.get(place))
         {
             Some(found) => found.is_there,
+            None => false,
+        }
+    }
+
+    // Returns whether the agent can be in an open cell before the step to the tick, and hasn't come back to it by this step.
+    fn was_there(&self, places: &CellPlaces, cell: Cell, tick: Tick) -> bool {
+        match self
+            .find(places, cell)
+            .and_then(|place| self.cells.get(place))
+        {
+            Some(found) => found.is_there && found.opened != tick,
             None => false,
         }
     }
