@@ -14,9 +14,9 @@
 //! returns, within its ranges.
 #![tactic(auto)]
 
-mod certificate;
+mod drawing;
 mod impossible;
 mod needs;
 
-pub use certificate::certificate;
+pub use drawing::certificate;
 pub use impossible::{never_left, no_way, same_goal, same_start};
