@@ -39,6 +39,7 @@ pub use cert_lines::CertLines;
 pub use cert_reader::read_cert;
 pub use cert_writer::write_cert;
 pub use line::CertLine;
+pub use memory_sink::MemorySink;
 pub use plan_reader::read_plan;
 pub use plan_text::{PlanAnswer, PlanText, PlanTextFault};
 pub use plan_writer::write_plan;

@@ -1,4 +1,4 @@
-//! The sink of the calls that return a whole text, `write_plan` and `write_cert`.
+//! The sink of the calls that return a whole text, such as `write_plan` and `write_cert`.
 ghost use Rattle.std.specs.Prelude.{◌≡◌, [], false, Some};
 
 use mapf_model::{Failed, Sink};

@@ -19,8 +19,7 @@ ghost use Rattle.mapf_lemma_convert.specs.Results.{IsConversion, IsConvertedText
 
 use crate::lemma_part::lemmas_fit;
 use crate::node_walk::NodeWalk;
-use crate::text_sink::TextSink;
-use mapf_certificate::{Cert, CertFault, read_cert};
+use mapf_certificate::{Cert, CertFault, MemorySink, read_cert};
 use mapf_lemma_texts::{LemmaLine, LemmaWriter, Part};
 use mapf_model::{Claim, Failed, Grid, Item};
 use std::alloc::{AllocError, Global};
@@ -38,7 +37,7 @@ pub enum ConvertFault {
 
 // Writes the first three lines.
 fn write_header(
-    sink: &mut TextSink,
+    sink: &mut MemorySink,
     writer: &mut LemmaWriter,
     agents: u32,
     claim: Claim,
@@ -55,7 +54,11 @@ fn write_header(
 }
 
 // Writes the parts.
-fn write_parts(sink: &mut TextSink, writer: &mut LemmaWriter, parts: &[Part]) -> Result<(), Failed>
+fn write_parts(
+    sink: &mut MemorySink,
+    writer: &mut LemmaWriter,
+    parts: &[Part],
+) -> Result<(), Failed>
     requires works { sink.old.1 ≡ false }
     requires few { All HasFewValues parts.now }
     ensures text { OnOk result (Passes (Some sink.old.0) (Some sink.new.0) writer.old.page writer.new.page
@@ -70,7 +73,7 @@ fn write_parts(sink: &mut TextSink, writer: &mut LemmaWriter, parts: &[Part]) ->
 }
 
 // Writes the last line, and what is left on the page.
-fn write_end(sink: &mut TextSink, writer: &mut LemmaWriter) -> Result<(), Failed>
+fn write_end(sink: &mut MemorySink, writer: &mut LemmaWriter) -> Result<(), Failed>
     requires { sink.old.1 ≡ false }
     ensures { OnOk result (sink.new.0
         ≡ sink.old.0 ++ (writer.old.page ++ line_text writer.old.width LemmaLine.End)) }
@@ -81,7 +84,7 @@ fn write_end(sink: &mut TextSink, writer: &mut LemmaWriter) -> Result<(), Failed
 
 // Writes the certificate of this number of agents, this claim, and the parts that the walk made.
 fn write_walked(
-    sink: &mut TextSink,
+    sink: &mut MemorySink,
     grid: &Grid,
     agents: u32,
     claim: Claim,
@@ -125,7 +128,7 @@ fn converted_text(alloc: Global, cert: &Cert, grid: &Grid) -> Result<Vec<u8>, Co
     if !lemmas_fit(walk.lemmas()) {
         return Err(ConvertFault::TooLarge);
     }
-    let mut sink = TextSink::empty(alloc);
+    let mut sink = MemorySink::empty(alloc);
     match write_walked(&mut sink, grid, cert.agents, cert.claim, &walk) {
         Ok(()) => Ok(sink.into_bytes()),
         Err(_) => Err(ConvertFault::Memory),

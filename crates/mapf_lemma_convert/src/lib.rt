@@ -13,6 +13,5 @@ mod lemma_part;
 mod node_walk;
 #[cfg(test)]
 mod tests;
-mod text_sink;
 
 pub use converter::{ConvertFault, convert_cert_to_lemmas};
