@@ -12,9 +12,11 @@
 //! part is due (`Due`), and compares the first line of each part with it. What a part lists is read by `list`, for
 //! which the trait `Listed` says what the line of a value is and which value may come before which.
 //!
-//! `LemmaWriter` puts lines on a page, which goes to the sink when it is full.
+//! `LemmaWriter` puts lines on a page, which goes to the sink when it is full. `write_lemma_cert` returns the text of a
+//! whole certificate.
 #![tactic(auto)]
 
+mod cert_writer;
 mod constraint_line;
 mod due;
 mod front_reader;
@@ -41,6 +43,7 @@ mod sizes;
 mod split_line;
 mod text_writer;
 
+pub use cert_writer::{WriteFault, write_lemma_cert};
 pub use line::LemmaLine;
 pub use line_reader::line_of;
 pub use lines::LemmaLines;
