@@ -33,11 +33,10 @@ impl<'a> Searcher<'a> {
         let Some((first, second)) = self.singles_at(0, i, j) else {
             return Ok(false);
         };
-        let store = &mut self.store;
-        let Some(pair) = store.pairs.number_of(&mut store.singles, first, second)? else {
+        let Some(pair) = self.pair_number(first, second)? else {
             return Ok(false);
         };
-        let known = store.pairs.get(pair);
+        let known = self.store.pairs.get(pair);
         Ok(known.is_some_and(|known| known.paths().is_some()))
     }
 

@@ -88,7 +88,7 @@ impl<'a> Searcher<'a> {
             }
         }
         for fact in &node.groups {
-            let Some(group) = self.store.groups.get(fact.group) else {
+            let Some(group) = costs.store.groups.get(fact.group) else {
                 continue;
             };
             let excess = fact.bound.saturating_sub(costs.sum(node, &group.agents));
@@ -98,6 +98,13 @@ impl<'a> Searcher<'a> {
             }
         }
         Ok(())
+    }
+
+    /// Returns the number of two agents under their constraints, whose numbers these are. None if one of them can't
+    /// arrive.
+    pub fn pair_number(&mut self, first: u32, second: u32) -> Result<Option<u32>, OutOfMemory> {
+        let store = &mut self.store;
+        store.pairs.number_of(&mut store.singles, first, second)
     }
 
     // Looks at each pair in conflict. Returns whether two paths took the place of the node's.
@@ -130,11 +137,7 @@ impl<'a> Searcher<'a> {
         let Some((first, second)) = self.singles_at(number, i, j) else {
             return Ok(false);
         };
-        let Some(pair) = self
-            .store
-            .pairs
-            .number_of(&mut self.store.singles, first, second)?
-        else {
+        let Some(pair) = self.pair_number(first, second)? else {
             return Ok(false);
         };
         let bound = self.store.pairs.get(pair).map_or(0, |known| known.bound());

@@ -258,11 +258,7 @@ impl<'a> Searcher<'a> {
         let Some((first, second)) = self.singles_at(number, i, j) else {
             return Ok(None);
         };
-        let Some(pair) = self
-            .store
-            .pairs
-            .number_of(&mut self.store.singles, first, second)?
-        else {
+        let Some(pair) = self.pair_number(first, second)? else {
             return Ok(None);
         };
         let bound = self.store.pairs.get(pair).map_or(0, |known| known.bound());
@@ -322,7 +318,8 @@ impl<'a> Searcher<'a> {
 
     // Returns the plan of a group, if it has one that obeys what stands at the node.
     fn plan_at(&mut self, number: u32, group: u32) -> Result<Option<Vec<u32>>, OutOfMemory> {
-        let Some(known) = self.store.groups.get(group) else {
+        let store = &self.store;
+        let Some(known) = store.groups.get(group) else {
             return Ok(None);
         };
         let (Some(plan), Some(tree)) = (&known.plan, &known.tree) else {
@@ -333,7 +330,7 @@ impl<'a> Searcher<'a> {
             self.standing.reset();
             self.tree.gather(&mut self.standing, number, agent)?;
             self.standing.tidy();
-            let cells = self.store.paths.cells(path);
+            let cells = store.paths.cells(path);
             // The search counted waits at the goal up to the least cost that it knew.
             let is_late = self.standing.least() <= least || self.standing.least() <= cost_of(cells);
             if !is_late || !self.standing.is_obeyed_by(cells) {

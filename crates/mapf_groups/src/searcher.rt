@@ -2,11 +2,13 @@
 use crate::group_search::Suspended;
 use crate::visit::Visit;
 use mapf_layers::ConstraintSet;
+use mapf_lemma_texts::Part;
 use mapf_model::{Conflict, OutOfMemory, Path, Problem};
 use mapf_nodes::{
     Added, ConflictCount, Costs, Fact, LABEL_DEPTH, Node, NodeState, Packings, Placed, SearchTree,
     Store, add_relevant, is_of, pair_of,
 };
+use mapf_tree_lemmas::certificate;
 use std::alloc::Global;
 
 /// A search: the tree that it grows, and what serves all trees.
@@ -107,6 +109,12 @@ impl<'a> Searcher<'a> {
         child.count = ConflictCount::of(self.alloc, &child.conflicts)?;
         child.bound = child.bound.max(child.base);
         Ok(Some(child))
+    }
+
+    /// Returns the parts of the certificate that shows by the search's tree that no valid plan has a smaller sum of costs
+    /// than the claim, in ticks.
+    pub fn certify(&mut self, claim: u64) -> Result<Vec<Part>, OutOfMemory> {
+        certificate(&mut self.store, &self.tree, claim)
     }
 
     /// Returns what the agents of the tree cost.

@@ -8,7 +8,6 @@ use crate::outcome::Outcome;
 use crate::searcher::Searcher;
 use mapf_model::{Cause, OutOfMemory, Path, Plan, Problem, Unwatched, Watcher};
 use mapf_nodes::{Members, SearchTree};
-use mapf_tree_lemmas::certificate;
 use std::alloc::Global;
 
 /// Searches for an optimal plan, with at most `limit` splits: 0 to 100,000. A bypass is no split. Out of memory is the
@@ -38,7 +37,7 @@ pub fn search_watched<W: Watcher>(
         return Ok(Outcome::Impossible { parts });
     }
     let ended = searcher.run(watcher)?;
-    end(searcher, ended)
+    end(&mut searcher, ended)
 }
 
 // Returns the tree of all agents without nodes.
@@ -53,13 +52,13 @@ fn tree_of_all(alloc: Global, problem: &Problem) -> Result<SearchTree, OutOfMemo
 }
 
 // Returns the outcome of a search that has ended.
-fn end(mut searcher: Searcher, ended: Ended) -> Result<Outcome, OutOfMemory> {
+fn end(searcher: &mut Searcher, ended: Ended) -> Result<Outcome, OutOfMemory> {
     let bound = searcher.tree.bound;
     match ended {
-        Ended::Plan(paths) => match plan_of(&searcher, &paths)? {
+        Ended::Plan(paths) => match plan_of(searcher, &paths)? {
             Some((plan, cost)) => Ok(Outcome::Found {
                 plan,
-                parts: certificate(&mut searcher.store, &searcher.tree, cost)?,
+                parts: searcher.certify(cost)?,
             }),
             None => limited(searcher, Cause::Ticks, bound),
         },
@@ -69,11 +68,11 @@ fn end(mut searcher: Searcher, ended: Ended) -> Result<Outcome, OutOfMemory> {
     }
 }
 
-fn limited(mut searcher: Searcher, cause: Cause, bound: u64) -> Result<Outcome, OutOfMemory> {
+fn limited(searcher: &mut Searcher, cause: Cause, bound: u64) -> Result<Outcome, OutOfMemory> {
     Ok(Outcome::Limit {
         cause,
         bound,
-        parts: certificate(&mut searcher.store, &searcher.tree, bound)?,
+        parts: searcher.certify(bound)?,
     })
 }
 
