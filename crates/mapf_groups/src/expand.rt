@@ -100,7 +100,8 @@ impl<'a> Searcher<'a> {
                 return self.go_on(visit);
             }
         }
-        self.split(number)
+        let sides = self.sides(number);
+        self.split(number, sides)
     }
 
     /// Goes on with an open node after its visit.
@@ -118,12 +119,16 @@ impl<'a> Searcher<'a> {
             let plan = Vec::from_slice(self.alloc, plan)?;
             return Ok(Step::Ended(Ended::Plan(plan)));
         }
-        self.split(number)
+        let sides = match self.sides_between_groups(visit)? {
+            Some(sides) => Some(sides),
+            None => self.sides(number),
+        };
+        self.split(number, sides)
     }
 
-    // Splits an open node, or puts a child in its place.
-    fn split(&mut self, number: u32) -> Result<Step, OutOfMemory> {
-        match self.sides(number) {
+    // Splits an open node in this way, or puts a child in its place.
+    fn split(&mut self, number: u32, sides: Option<Sides>) -> Result<Step, OutOfMemory> {
+        match sides {
             Some(sides) => self.expand(number, sides),
             None => {
                 self.tree.push(number)?;

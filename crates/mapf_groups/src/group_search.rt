@@ -421,7 +421,7 @@ impl<'a> Searcher<'a> {
     }
 
     // Returns the number of an agent under its constraints at a node.
-    fn single_at(&self, number: u32, agent: u32) -> u32 {
+    pub fn single_at(&self, number: u32, agent: u32) -> u32 {
         let place = self.tree.members.place(agent).unwrap_or(usize::MAX);
         match self.tree.node(number) {
             Some(node) => node.singles.get(place).copied().unwrap_or(u32::MAX),
@@ -582,7 +582,7 @@ fn is_given(tree: &SearchTree, agent: u32, set: &ConstraintSet) -> bool {
 }
 
 // Returns the tick of a path's last arrival in its last cell.
-fn cost_of(path: &[Cell]) -> u32 {
+pub fn cost_of(path: &[Cell]) -> u32 {
     let arrival = path.iter().rposition(|cell| path.last() != Some(cell));
     match arrival {
         Some(place) => u32::try_from(place.saturating_add(1)).unwrap_or(u32::MAX),

@@ -1,5 +1,5 @@
 //! Which plan is optimal? A conflict-based search (Sharon et al. 2015) that bounds what pairs and groups of agents cost
-//! together. The program doesn't call it yet.
+//! together: the search of `solve --search cbsh`.
 //!
 //! A node knows what each agent costs alone under its constraints, and of pairs in conflict what both cost at least
 //! together (Li et al. 2019). Where agents are in several such pairs, the excesses are packed (`mapf_packing`). Nodes
@@ -11,11 +11,13 @@
 //! of a pair that costs one tick more together than alone: if the one agent keeps its cost, the other costs more. All
 //! other conflicts are split as they are, cardinal ones first.
 //!
-//! Before a node with many agents is split, it is visited (`Visit`): its agents fall into groups, each group is
-//! searched by itself, and groups whose plans conflict are united (independence detection, Standley 2010). The search
-//! for a group is this same search over a tree of its own, under what stands for its agents at the node. It ends for
-//! now after some work, and can be gone on with. The visit waits meanwhile (`Suspended`). What it shows is a bound of
-//! the node, and if no conflict is left, the groups' plans are one of all agents.
+//! Before a node with many agents is split, it is visited (`Visit`): its agents fall into groups, and each group is
+//! searched by itself. An agent in conflict with another group gets another path of the same cost where that has fewer
+//! conflicts. Groups that still conflict are united (independence detection, Standley 2010). The search for a group is
+//! this same search over a tree of its own, under what stands for its agents at the node. It ends for now after some
+//! work, and can be gone on with. The visit waits meanwhile (`Suspended`). What it shows is a bound of the node. If no
+//! conflict is left, the groups' plans are one of all agents, and if few are, the node is split on one of them (Sharon
+//! et al. 2012).
 //!
 //! What the nodes share is kept in one store (`mapf_nodes`). At the end a certificate of version 3 is drawn from the
 //! trees (`mapf_tree_lemmas`).

@@ -186,7 +186,7 @@ impl<'a> Searcher<'a> {
 
     // Returns a cheapest path of an agent with few conflicts with the others, as they were placed. None if it can't
     // arrive.
-    fn path_of(&mut self, number: Option<u32>) -> Result<Option<Path>, OutOfMemory> {
+    pub fn path_of(&mut self, number: Option<u32>) -> Result<Option<Path>, OutOfMemory> {
         let Some(single) = number.and_then(|number| self.store.singles.get(number)) else {
             return Ok(None);
         };

@@ -1,7 +1,8 @@
 //! On what a node is split.
 use crate::searcher::Searcher;
+use crate::visit::{FEW_CONFLICTS, Visit};
 use mapf_model::limits::SPLIT_TICKS;
-use mapf_model::{Cell, Conflict, Tick};
+use mapf_model::{Cell, Conflict, OutOfMemory, Tick};
 use mapf_nodes::{Added, Arrived, CostAtLeast, CostsSplit, Node, PairFact, SplitKind, pair_of};
 use std::cmp::Reverse;
 
@@ -38,11 +39,31 @@ impl<'a> Searcher<'a> {
         if let Some(arrived) = self.arrived_in(node, &conflict) {
             return Some(cost_sides(arrived));
         }
-        Some(Sides {
-            kind: SplitKind::Conflict(conflict),
-            left: Added::Not(conflict.left()),
-            right: Added::Not(conflict.right()),
-        })
+        Some(conflict_sides(conflict))
+    }
+
+    /// Returns how a node is split after a visit that solved its groups and left few conflicts between them: on one of
+    /// the smallest two. None after any other visit.
+    pub fn sides_between_groups(&self, visit: &Visit) -> Result<Option<Sides>, OutOfMemory> {
+        let cross = self.cross(visit)?;
+        if !visit.is_all_solved() || cross.len() > FEW_CONFLICTS {
+            return Ok(None);
+        }
+        let mut best: Option<((usize, Tick), Conflict)> = None;
+        for conflict in &cross {
+            let Some(size) = self.size_of_both(visit, conflict) else {
+                continue;
+            };
+            if conflict.tick() >= SPLIT_TICKS {
+                continue;
+            }
+            let key = (size, conflict.tick());
+            match &best {
+                Some((least, _)) if *least <= key => {}
+                _ => best = Some((key, *conflict)),
+            }
+        }
+        Ok(best.map(|(_, conflict)| conflict_sides(conflict)))
     }
 
     // Returns the conflict that is split, of several that are as good the last.
@@ -158,6 +179,15 @@ impl<'a> Searcher<'a> {
     fn goal(&self, agent: u32) -> Option<Cell> {
         let who = self.problem.agents().get(agent as usize)?;
         Some(who.goal)
+    }
+}
+
+// Returns the split on a conflict.
+fn conflict_sides(conflict: Conflict) -> Sides {
+    Sides {
+        kind: SplitKind::Conflict(conflict),
+        left: Added::Not(conflict.left()),
+        right: Added::Not(conflict.right()),
     }
 }
 

@@ -1,15 +1,19 @@
 //! Independence detection at a node (Standley 2010): groups of agents are searched by themselves, and grow as their
 //! plans conflict.
+use crate::group_search::cost_of;
 use crate::searcher::Searcher;
-use mapf_model::{Conflict, OutOfMemory};
-use mapf_nodes::{Fact, FactGroup, GroupFact, Node, NodeState, WeightedFact, is_of, pair_of};
+use mapf_model::{Conflict, OutOfMemory, Path};
+use mapf_nodes::{
+    Added, CostAtLeast, Fact, FactGroup, GroupFact, Node, NodeState, WeightedFact, is_of, pair_of,
+};
 use std::alloc::Global;
 
 /// The most agents of a group at nodes at which not all sizes are searched.
 const SMALL: usize = 12;
 
-/// The most conflicts between groups at which agents alone get better paths, at such nodes.
-const FEW_CONFLICTS: usize = 3;
+/// The most conflicts between groups that count as few. With more of them agents keep their paths, at such nodes, and
+/// no node is split on one of them.
+pub const FEW_CONFLICTS: usize = 3;
 
 /// The groups of a node's agents, while they grow. What is listed by agent is listed by its place in the tree.
 #[derive(Drop)]
@@ -137,6 +141,11 @@ impl Visit {
         true
     }
 
+    /// Returns whether each group of several agents has a plan.
+    pub fn is_all_solved(&self) -> bool {
+        self.is_solved.iter().all(|&is_solved| is_solved)
+    }
+
     // Returns the sum of the excesses of all groups.
     fn excess(&self) -> u64 {
         let mut sum = 0u64;
@@ -175,7 +184,7 @@ impl<'a> Searcher<'a> {
     /// Looks at the conflicts between groups, all of which were searched: unites two of them, or ends the visit.
     /// Returns whether it unites two.
     pub fn unite_in_conflict(&mut self, visit: &mut Visit) -> Result<bool, OutOfMemory> {
-        self.reroute_lone(visit)?;
+        self.reroute_in_conflict(visit)?;
         let cross = self.cross(visit)?;
         if cross.is_empty() {
             self.end_visit(visit)?;
@@ -184,8 +193,8 @@ impl<'a> Searcher<'a> {
         Ok(self.unite_first(visit, &cross))
     }
 
-    // Returns the conflicts between groups.
-    fn cross(&self, visit: &Visit) -> Result<Vec<Conflict>, OutOfMemory> {
+    /// Returns the conflicts between groups.
+    pub fn cross(&self, visit: &Visit) -> Result<Vec<Conflict>, OutOfMemory> {
         let mut cross = Vec::new(self.alloc);
         for conflict in &visit.conflicts {
             if let Some((first, second)) = self.parts_of(visit, conflict) {
@@ -210,10 +219,9 @@ impl<'a> Searcher<'a> {
         let mut best: Option<(usize, u32, u32, u32)> = None;
         for conflict in cross {
             let (i, j) = pair_of(conflict);
-            if let Some((first, second)) = self.parts_of(visit, conflict) {
-                let size = visit.size(first).saturating_add(visit.size(second));
+            if let Some(size) = self.size_of_both(visit, conflict) {
                 let key = (size, conflict.tick(), i, j);
-                if best.is_none_or(|least| key < least) && self.may_unite(visit, conflict) {
+                if best.is_none_or(|least| key < least) && self.may_unite(visit, conflict, size) {
                     best = Some(key);
                 }
             }
@@ -227,17 +235,20 @@ impl<'a> Searcher<'a> {
         }
     }
 
-    // Returns whether the groups of the two agents of a conflict are solved, and not too large together.
-    fn may_unite(&self, visit: &Visit, conflict: &Conflict) -> bool {
+    /// Returns how many agents the two groups of a conflict have.
+    pub fn size_of_both(&self, visit: &Visit, conflict: &Conflict) -> Option<usize> {
+        let (first, second) = self.parts_of(visit, conflict)?;
+        Some(visit.size(first).saturating_add(visit.size(second)))
+    }
+
+    // Returns whether the groups of the two agents of a conflict are solved, and with this size not too large together.
+    fn may_unite(&self, visit: &Visit, conflict: &Conflict, size: usize) -> bool {
         let (i, j) = pair_of(conflict);
         let (Some(first), Some(second)) = (self.tree.members.place(i), self.tree.members.place(j))
         else {
             return false;
         };
         let is_solved = |place: usize| visit.is_solved.get(place) == Some(&true);
-        let size = visit
-            .size(visit.part(first))
-            .saturating_add(visit.size(visit.part(second)));
         is_solved(first)
             && is_solved(second)
             && size < visit.parts.len()
@@ -293,8 +304,8 @@ impl<'a> Searcher<'a> {
         Ok(())
     }
 
-    // Gives agents that are alone and in conflict paths of the same cost with fewer conflicts.
-    fn reroute_lone(&mut self, visit: &mut Visit) -> Result<(), OutOfMemory> {
+    // Gives agents that are in conflict paths of the same cost with fewer conflicts.
+    fn reroute_in_conflict(&mut self, visit: &mut Visit) -> Result<(), OutOfMemory> {
         let cross = self.cross(visit)?;
         if !visit.is_wide && cross.len() > FEW_CONFLICTS {
             return Ok(());
@@ -313,29 +324,32 @@ impl<'a> Searcher<'a> {
         Ok(())
     }
 
-    // Gives an agent that is alone a path of the same cost with fewer conflicts, if there is one.
+    // Gives an agent a path of the same cost with fewer conflicts, if there is one that meets none of the others of its
+    // group.
     fn reroute_one(&mut self, visit: &mut Visit, agent: u32) -> Result<(), OutOfMemory> {
         let Some(place) = self.tree.members.place(agent) else {
             return Ok(());
         };
-        if visit.size(visit.part(place)) != 1 {
-            return Ok(());
-        }
         let old = visit
             .conflicts
             .iter()
             .filter(|conflict| is_of(conflict, agent))
             .count();
-        if old == 0 {
+        if old == 0 || visit.is_solved.get(place) != Some(&true) {
             return Ok(());
         }
         self.place_all(&visit.paths)?;
-        let Some(path) = self.path_at(visit.number, place)? else {
+        let Some(path) = self.path_as_dear(visit, agent, place)? else {
             return Ok(());
         };
         let mut conflicts = Vec::new(self.alloc);
         self.conflicts_within(&mut conflicts, agent, &path)?;
-        if conflicts.len() >= old || !self.obeys(visit.number, agent, path.cells())? {
+        if conflicts.len() >= old
+            || conflicts
+                .iter()
+                .any(|conflict| self.is_within(visit, conflict))
+            || !self.obeys(visit.number, agent, path.cells())?
+        {
             return Ok(());
         }
         visit.conflicts.retain(|conflict| !is_of(conflict, agent));
@@ -349,9 +363,42 @@ impl<'a> Searcher<'a> {
         Ok(())
     }
 
+    // Returns a path of an agent that costs as much as its path of the visit, with few conflicts with the others, as
+    // they were placed.
+    fn path_as_dear(
+        &mut self,
+        visit: &Visit,
+        agent: u32,
+        place: usize,
+    ) -> Result<Option<Path>, OutOfMemory> {
+        let Some(&path) = visit.paths.get(place) else {
+            return Ok(None);
+        };
+        let ticks = cost_of(self.store.paths.cells(path));
+        if self.store.singles.cost(self.single_at(visit.number, agent)) == Some(ticks) {
+            return self.path_at(visit.number, place);
+        }
+        self.gather(visit.number, agent)?;
+        Added::AtLeast(CostAtLeast { agent, ticks }).add_to(&mut self.standing, agent)?;
+        self.standing.tidy();
+        let number = self
+            .store
+            .singles
+            .number_of(agent, &mut self.standing, ticks)?;
+        self.path_of(Some(number))
+    }
+
+    // Returns whether a conflict is one of two agents of a group.
+    fn is_within(&self, visit: &Visit, conflict: &Conflict) -> bool {
+        match self.parts_of(visit, conflict) {
+            Some((first, second)) => first == second,
+            None => false,
+        }
+    }
+
     // Ends a visit whose groups have no conflict with each other: if all are solved, their paths are a plan.
     fn end_visit(&mut self, visit: &Visit) -> Result<(), OutOfMemory> {
-        if !visit.is_solved.iter().all(|&is_solved| is_solved) {
+        if !visit.is_all_solved() {
             return Ok(());
         }
         let alloc = self.alloc;
