@@ -1,27 +1,35 @@
--- Texts of version 2 that were written in memory and accepted print the answer that their verdict tells.
-use Rattle.std.proofs.Common.{◌≡◌, ℕ, List, length, slice_get, Some, ⊎_elim, refl, sym, ap, ◌∙◌, subst, arith}
+-- A plan text of version 2 and a certificate of version 3 that were written in memory and accepted print the answer that
+-- their verdict tells.
+use Rattle.std.proofs.Common.{◌≡◌, ℕ, List, ◌++◌, length, slice_get, Some, ⊎_elim, append_assoc, refl, sym, ap, ◌∙◌, subst, arith}
+use Rattle.std.proofs.lemmas.List.{append_cancel_left}
 use Rattle.std.proofs.lemmas.Option.{same_Some}
 use Rattle.mapf_app.specs.Checked.{IsBoundInRange, IsKindOf}
-use Rattle.mapf_app.specs.Solved.{Prints, PrintsOptimal, PrintsImpossible, PrintsLimit}
+use Rattle.mapf_app.specs.Solved.{Prints, PrintsOptimal, PrintsImpossible, PrintsLimit, SpellsClaim}
 use Rattle.mapf_app.specs.declared.kind.Kind.{Kind}
 use Rattle.mapf_app.specs.declared.kind.Kind.TheVariants.{Found, Impossible, Limit}
-use Rattle.mapf_certificate.specs.Certificates.{SpellsCert, cert_text}
+use Rattle.mapf_certificate.specs.Certificates.{cert_text}
 use Rattle.mapf_certificate.specs.Plans.{IsPlanText, SpellsOnePlan, SpellsPlan, plan_text}
 use Rattle.mapf_certificate.specs.declared.plan_text.PlanAnswer.{PlanAnswer}
 use Rattle.mapf_certificate.specs.declared.plan_text.PlanAnswer.TheVariants as answers
 use Rattle.mapf_certificate.specs.declared.plan_text.PlanText.{PlanText}
 use Rattle.mapf_certificate.specs.declared.version.Version.{Version}
 use Rattle.mapf_certificate.specs.declared.version.Version.TheVariants.{One, Two}
-use Rattle.mapf_checker.specs.Verdict.{AreAccepted, IsGoodTreeCert, IsTrueText, IsTrueOf, IsVerdictOn}
+use Rattle.mapf_checker.specs.Verdict.{AreAccepted, IsGoodFor, IsGoodTreeCert, IsTrueText, IsTrueOf, IsVerdictOn}
 use Rattle.mapf_checker.specs.declared.fault.Verdict.{Verdict}
 use Rattle.mapf_checker.specs.declared.fault.Verdict.TheVariants as verdicts
 use Rattle.mapf_lemma_checker.specs.Whole.{IsGoodLemmaCert}
+use Rattle.mapf_lemma_texts.specs.declared.line.LemmaLine.TheVariants as lines
+use Rattle.mapf_lemma_texts.specs.declared.part.Part.{Part}
+use Rattle.mapf_lemma_texts.specs.Lines.{line_text}
+use Rattle.mapf_lemma_texts.specs.PartReading.{header_text}
+use Rattle.mapf_lemma_texts.specs.PartWriting.{certificate_text}
 use Rattle.mapf_model.specs.Grid.{IsGridMap}
 use Rattle.mapf_model.specs.Plan.{Instance}
-use Rattle.mapf_model.specs.Tree.{ConstraintTree, Node, nodes_of}
+use Rattle.mapf_model.specs.Tree.{Node, nodes_of}
 use Rattle.mapf_model.specs.declared.cause.Cause.{Cause}
 use Rattle.mapf_model.specs.declared.item.Claim.{Claim}
 use Rattle.mapf_model.specs.declared.item.Claim.TheVariants as claims
+use Rattle.mapf_words.specs.declared.job.Search.TheVariants.{Cbsh}
 
 -- the title of a plan text tells its version
 plan_is_two : (width agents other_agents : ℕ) (answer other : PlanAnswer) (version : Version) → plan_text width (record { version = Two; agents = agents; answer = answer }) ≡ plan_text width (record { version = version; agents = other_agents; answer = other }) → version ≡ Two
@@ -31,84 +39,124 @@ plan_is_two width agents other_agents answer other One same =
     absurd (omega (arith, differ))
 plan_is_two width agents other_agents answer other Two same = refl
 
--- and so does that of a certificate
-cert_is_two : (width agents other_agents : ℕ) (claim other : Claim) (nodes others : List Node) (version : Version) → cert_text Two width agents claim nodes ≡ cert_text version width other_agents other others → version ≡ Two
-cert_is_two width agents other_agents claim other nodes others One same =
-    let apart : Some 50 ≡ Some 49 = ap (λ (text : List ℕ). slice_get text 10) same in
-    let differ : 50 ≡ 49 = same_Some 50 49 apart in
-    absurd (omega (arith, differ))
-cert_is_two width agents other_agents claim other nodes others Two same = refl
-
--- so a certificate that was written in version 2 is none of version 3
-not_of_lemmas : (problem : Instance) (claim claimed : Claim) (nodes : List Node) (cert : List ℕ) → cert ≡ cert_text Two problem.grid.width (length problem.agents) claim nodes → IsGoodLemmaCert problem claimed cert → ⊥
-not_of_lemmas problem claim claimed nodes cert written good =
-    let apart : Some 50 ≡ Some 51 = ap (λ (text : List ℕ). slice_get text 10) (sym written ∙ good.spelled.spelled) in
-    let differ : 50 ≡ 51 = same_Some 50 51 apart in
+-- a certificate that was written in version 3 is none of version 1 or 2
+not_of_trees : (width agents other_agents : ℕ) (claim other : Claim) (written : List Part) (nodes : List Node) (version : Version) → certificate_text width agents claim written ≡ cert_text version width other_agents other nodes → ⊥
+not_of_trees width agents other_agents claim other written nodes One same =
+    let apart : Some 51 ≡ Some 49 = ap (λ (text : List ℕ). slice_get text 10) same in
+    let differ : 51 ≡ 49 = same_Some 51 49 apart in
+    omega (arith, differ)
+not_of_trees width agents other_agents claim other written nodes Two same =
+    let apart : Some 51 ≡ Some 50 = ap (λ (text : List ℕ). slice_get text 10) same in
+    let differ : 51 ≡ 50 = same_Some 51 50 apart in
     omega (arith, differ)
 
--- the claim that was shown, by the verdict, where it is the strongest for the answer
-claim_of_cost : (answer : Claim) (sum : ℕ) → IsVerdictOn answer answer (verdicts.Optimal sum) → answer ≡ claims.Cost sum
-claim_of_cost (claims.Cost cost) sum fits = ap claims.Cost (sym fits.0)
-claim_of_cost (claims.Bound bound) sum fits = absurd fits
-claim_of_cost claims.Impossible sum fits = absurd fits
+-- the first byte of a claim's line by which it differs from those of other kinds
+abbrev mark : Claim → ℕ
+mark (claims.Cost cost) = 99
+mark (claims.Bound bound) = 98
+mark claims.Impossible = 105
 
-claim_of_bound : (answer : Claim) (shown : ℕ) → IsVerdictOn answer answer (verdicts.Bound shown) → answer ≡ claims.Bound shown
-claim_of_bound (claims.Cost cost) shown fits = absurd fits
-claim_of_bound (claims.Bound bound) shown fits = ap claims.Bound (sym fits.0)
-claim_of_bound claims.Impossible shown fits = absurd fits
+mark_there : (width : ℕ) (claim : Claim) (rest : List ℕ) → slice_get (line_text width (lines.Claim claim) ++ rest) 6 ≡ Some (mark claim)
+mark_there width (claims.Cost cost) rest = refl
+mark_there width (claims.Bound bound) rest = refl
+mark_there width claims.Impossible rest = refl
 
-claim_of_impossible : (answer : Claim) → IsVerdictOn answer answer verdicts.Impossible → answer ≡ claims.Impossible
-claim_of_impossible (claims.Cost cost) fits = absurd fits
-claim_of_impossible (claims.Bound bound) fits = absurd fits
-claim_of_impossible claims.Impossible fits = refl
+-- two texts with headers that are one text have claims of one kind
+same_mark : (width agents : ℕ) (claim other : Claim) (rest after : List ℕ) → header_text width agents claim ++ rest ≡ header_text width agents other ++ after → mark claim ≡ mark other
+same_mark width agents claim other rest after same =
+    let title = line_text width lines.Title in
+    let count = line_text width (lines.Agents agents) in
+    let one = line_text width (lines.Claim claim) in
+    let two = line_text width (lines.Claim other) in
+    let later : count ++ (one ++ rest) ≡ count ++ (two ++ after) = append_cancel_left title (count ++ (one ++ rest)) (count ++ (two ++ after))
+    (ap (λ t. title ++ t) (sym (append_assoc count one rest)) ∙ sym (append_assoc title (count ++ one) rest) ∙ same ∙ append_assoc title (count ++ two) after ∙ ap (λ t. title ++ t) (append_assoc count two after)) in
+    let last = append_cancel_left count (one ++ rest) (two ++ after) later in
+    same_Some (mark claim) (mark other) (sym (mark_there width claim rest) ∙ ap (λ (text : List ℕ). slice_get text 6) last ∙ mark_there width other after)
 
-module _ (problem : Instance) (plan cert : List ℕ) (tree : ConstraintTree) where
-  prints_optimal : (cost : ℕ) (says : PlanAnswer) → SpellsPlan problem.grid plan Two (length problem.agents) says → SpellsCert problem.grid cert Two (length problem.agents) (claims.Cost cost) tree → IsTrueOf problem says (verdicts.Optimal cost) → AreAccepted problem plan cert (verdicts.Optimal cost) → PrintsOptimal problem cost plan cert
-  prints_optimal cost (answers.Found paths) spelled certified is_true accepted = record { paths = paths; spelled = spelled; certified = (tree, certified); optimal = is_true; accepted = accepted }
+-- the claim that was shown, by the verdict and the kind of claim that was written
+claim_of_cost : (answer claimed : Claim) (sum : ℕ) → IsVerdictOn answer claimed (verdicts.Optimal sum) → 99 ≡ mark claimed → claimed ≡ claims.Cost sum
+claim_of_cost (claims.Cost cost) (claims.Cost claimed) sum fits same = ap claims.Cost (fits.1 ∙ sym fits.0)
+claim_of_cost answer (claims.Bound claimed) sum fits same = let differ : 99 ≡ 98 = same in absurd (omega (arith, differ))
+claim_of_cost answer claims.Impossible sum fits same = let differ : 99 ≡ 105 = same in absurd (omega (arith, differ))
+claim_of_cost (claims.Bound bound) (claims.Cost claimed) sum fits same = absurd fits
+claim_of_cost claims.Impossible (claims.Cost claimed) sum fits same = absurd fits
+
+claim_of_bound : (answer claimed : Claim) (shown : ℕ) → IsVerdictOn answer claimed (verdicts.Bound shown) → 98 ≡ mark claimed → claimed ≡ claims.Bound shown
+claim_of_bound (claims.Bound bound) (claims.Bound claimed) shown fits same = ap claims.Bound (fits.1 ∙ sym fits.0)
+claim_of_bound answer (claims.Cost claimed) shown fits same = let differ : 98 ≡ 99 = same in absurd (omega (arith, differ))
+claim_of_bound answer claims.Impossible shown fits same = let differ : 98 ≡ 105 = same in absurd (omega (arith, differ))
+claim_of_bound (claims.Cost cost) (claims.Bound claimed) shown fits same = absurd fits
+claim_of_bound claims.Impossible (claims.Bound claimed) shown fits same = absurd fits
+
+claim_of_impossible : (claimed : Claim) → 105 ≡ mark claimed → claimed ≡ claims.Impossible
+claim_of_impossible (claims.Cost claimed) same = let differ : 105 ≡ 99 = same in absurd (omega (arith, differ))
+claim_of_impossible (claims.Bound claimed) same = let differ : 105 ≡ 98 = same in absurd (omega (arith, differ))
+claim_of_impossible claims.Impossible same = refl
+
+-- the kind of claim of a good answer
+mark_of_cost : (problem : Instance) (paths : List (List ℕ)) (claim : Claim) → IsGoodFor problem (answers.Found paths) claim → 99 ≡ mark claim
+mark_of_cost problem paths (claims.Cost cost) is = refl
+mark_of_cost problem paths (claims.Bound bound) is = absurd is
+mark_of_cost problem paths claims.Impossible is = absurd is
+
+mark_of_bound : (problem : Instance) (cause : Cause) (bound : ℕ) (claim : Claim) → IsGoodFor problem (answers.Bounded cause bound) claim → 98 ≡ mark claim
+mark_of_bound problem cause bound (claims.Cost cost) is = absurd is
+mark_of_bound problem cause bound (claims.Bound says) is = refl
+mark_of_bound problem cause bound claims.Impossible is = absurd is
+
+mark_of_impossible : (problem : Instance) (claim : Claim) → IsGoodFor problem answers.Impossible claim → 105 ≡ mark claim
+mark_of_impossible problem (claims.Cost cost) is = absurd is
+mark_of_impossible problem (claims.Bound bound) is = absurd is
+mark_of_impossible problem claims.Impossible is = refl
+
+module _ (problem : Instance) (plan cert : List ℕ) where
+  prints_optimal : (cost : ℕ) (says : PlanAnswer) → SpellsPlan problem.grid plan Two (length problem.agents) says → SpellsClaim Cbsh problem (claims.Cost cost) cert → IsTrueOf problem says (verdicts.Optimal cost) → AreAccepted problem plan cert (verdicts.Optimal cost) → PrintsOptimal Cbsh problem cost plan cert
+  prints_optimal cost (answers.Found paths) spelled certified is_true accepted = record { paths = paths; spelled = spelled; certified = certified; optimal = is_true; accepted = accepted }
   prints_optimal cost answers.Impossible spelled certified is_true accepted = absurd is_true
   prints_optimal cost (answers.Bounded cause bound) spelled certified is_true accepted = absurd is_true
   prints_optimal cost (answers.Limit cause) spelled certified is_true accepted = absurd is_true
 
-  prints_impossible : (says : PlanAnswer) → SpellsPlan problem.grid plan Two (length problem.agents) says → SpellsCert problem.grid cert Two (length problem.agents) claims.Impossible tree → IsTrueOf problem says verdicts.Impossible → AreAccepted problem plan cert verdicts.Impossible → PrintsImpossible problem plan cert
+  prints_impossible : (says : PlanAnswer) → SpellsPlan problem.grid plan Two (length problem.agents) says → SpellsClaim Cbsh problem claims.Impossible cert → IsTrueOf problem says verdicts.Impossible → AreAccepted problem plan cert verdicts.Impossible → PrintsImpossible Cbsh problem plan cert
   prints_impossible (answers.Found paths) spelled certified is_true accepted = absurd is_true
-  prints_impossible answers.Impossible spelled certified is_true accepted = record { spelled = spelled; certified = (tree, certified); impossible = is_true; accepted = accepted }
+  prints_impossible answers.Impossible spelled certified is_true accepted = record { spelled = spelled; certified = certified; impossible = is_true; accepted = accepted }
   prints_impossible (answers.Bounded cause bound) spelled certified is_true accepted = absurd is_true
   prints_impossible (answers.Limit cause) spelled certified is_true accepted = absurd is_true
 
-  prints_limit : (cause : Cause) (bound says : ℕ) → SpellsPlan problem.grid plan Two (length problem.agents) (answers.Bounded cause says) → SpellsCert problem.grid cert Two (length problem.agents) (claims.Bound bound) tree → IsTrueOf problem (answers.Bounded cause says) (verdicts.Bound bound) → AreAccepted problem plan cert (verdicts.Bound bound) → PrintsLimit problem cause bound plan cert
+  prints_limit : (cause : Cause) (bound says : ℕ) → SpellsPlan problem.grid plan Two (length problem.agents) (answers.Bounded cause says) → SpellsClaim Cbsh problem (claims.Bound bound) cert → IsTrueOf problem (answers.Bounded cause says) (verdicts.Bound bound) → AreAccepted problem plan cert (verdicts.Bound bound) → PrintsLimit Cbsh problem cause bound plan cert
   prints_limit cause bound says spelled certified is_true accepted = record {
     spelled = subst (λ n. SpellsPlan problem.grid plan Two (length problem.agents) (answers.Bounded cause n)) is_true.0 spelled;
-    certified = (tree, certified);
+    certified = certified;
     holds = is_true.1;
     accepted = accepted;
   }
 
-module _ (problem : Instance) (law : SpellsOnePlan) (is_grid : IsGridMap problem.grid) (answer : PlanAnswer) (claim : Claim) (nodes : List Node) (plan cert : List ℕ) (verdict : Verdict) (in_range : IsBoundInRange answer)
+module _ (problem : Instance) (law : SpellsOnePlan) (is_grid : IsGridMap problem.grid) (answer : PlanAnswer) (claim : Claim) (written : List Part) (plan cert : List ℕ) (verdict : Verdict) (in_range : IsBoundInRange answer) (good_claim : IsGoodFor problem answer claim)
     (plan_is : plan ≡ plan_text problem.grid.width (record { version = Two; agents = length problem.agents; answer = answer }))
-    (cert_is : cert ≡ cert_text Two problem.grid.width (length problem.agents) claim nodes)
+    (cert_is : cert ≡ certificate_text problem.grid.width (length problem.agents) claim written)
     (truth : IsTrueText problem plan verdict) (accepted : AreAccepted problem plan cert verdict) where
-  -- the texts that were accepted are of version 2
+  -- the plan text that was accepted is of version 2
   spelled : SpellsPlan problem.grid plan Two (length problem.agents) truth.says
   spelled = subst (λ (v : Version). SpellsPlan problem.grid plan v (length problem.agents) truth.says) (plan_is_two problem.grid.width (length problem.agents) (length problem.agents) answer truth.says truth.version (sym plan_is ∙ truth.spelled.spelled)) truth.spelled
 
-  -- and the certificate shows the strongest claim for the answer
-  tree_cert : (accepted.claimed ≡ accepted.answer) × IsGoodTreeCert problem accepted.claimed cert
-  tree_cert = ⊎_elim
-      (λ (good : (accepted.claimed ≡ accepted.answer) × IsGoodTreeCert problem accepted.claimed cert). good)
-      (λ (good : IsGoodLemmaCert problem accepted.claimed cert). absurd (not_of_lemmas problem claim accepted.claimed nodes cert cert_is good))
+  -- and the certificate of version 3
+  good : IsGoodLemmaCert problem accepted.claimed cert
+  good = ⊎_elim
+      (λ (tree : (accepted.claimed ≡ accepted.answer) × IsGoodTreeCert problem accepted.claimed cert). absurd (not_of_trees problem.grid.width (length problem.agents) (length problem.agents) claim accepted.claimed written (nodes_of tree.1.tree) tree.1.version (sym cert_is ∙ tree.1.spelled.spelled)))
+      (λ (lemmas : IsGoodLemmaCert problem accepted.claimed cert). lemmas)
       accepted.cert
 
-  good : IsGoodTreeCert problem accepted.claimed cert
-  good = tree_cert.1
+  -- its claim is of the kind of the claim that was written
+  marked : mark claim ≡ mark accepted.claimed
+  marked = same_mark problem.grid.width (length problem.agents) claim accepted.claimed _ _ (sym cert_is ∙ good.spelled.spelled)
 
-  certified : SpellsCert problem.grid cert Two (length problem.agents) accepted.claimed good.tree
-  certified = subst (λ (v : Version). SpellsCert problem.grid cert v (length problem.agents) accepted.claimed good.tree) (cert_is_two problem.grid.width (length problem.agents) (length problem.agents) claim accepted.claimed nodes (nodes_of good.tree) good.version (sym cert_is ∙ good.spelled.spelled)) good.spelled
+  certified : (given : Claim) → accepted.claimed ≡ given → SpellsClaim Cbsh problem given cert
+  certified given is = subst (λ (c : Claim). SpellsClaim Cbsh problem c cert) is (good.lists, good.lemmas, good.tree, good.spelled)
 
-  fits : (given : Verdict) → verdict ≡ given → IsVerdictOn accepted.claimed accepted.claimed given
-  fits given is = subst (IsVerdictOn accepted.claimed accepted.claimed) is (subst (λ (a : Claim). IsVerdictOn a accepted.claimed verdict) (sym tree_cert.0) accepted.fits)
+  fits : (given : Verdict) → verdict ≡ given → IsVerdictOn accepted.answer accepted.claimed given
+  fits given is = subst (IsVerdictOn accepted.answer accepted.claimed) is accepted.fits
 
-  claimed : (given : Claim) → accepted.claimed ≡ given → SpellsCert problem.grid cert Two (length problem.agents) given good.tree
-  claimed given is = subst (λ (c : Claim). SpellsCert problem.grid cert Two (length problem.agents) c good.tree) is certified
+  good_of : (given : PlanAnswer) → answer ≡ given → IsGoodFor problem given claim
+  good_of given is = subst (λ (a : PlanAnswer). IsGoodFor problem a claim) is good_claim
 
   true_of : (given : Verdict) → verdict ≡ given → IsTrueOf problem truth.says given
   true_of given is = subst (IsTrueOf problem truth.says) is truth.is_true
@@ -120,16 +168,21 @@ module _ (problem : Instance) (law : SpellsOnePlan) (is_grid : IsGridMap problem
   says_is : (cause : Cause) (bound : ℕ) → answer ≡ answers.Bounded cause bound → truth.says ≡ answers.Bounded cause bound
   says_is cause bound is =
       let own : IsPlanText problem.grid (record { version = Two; agents = length problem.agents; answer = answers.Bounded cause bound }) = (spelled.in_range.0, subst IsBoundInRange is in_range, refl) in
-      let written = plan_is ∙ ap (λ (a : PlanAnswer). plan_text problem.grid.width (record { version = Two; agents = length problem.agents; answer = a })) is in
-      ap (λ (t : PlanText). t.answer) (law problem.grid plan _ _ is_grid spelled.in_range own spelled.spelled written)
+      let text_is = plan_is ∙ ap (λ (a : PlanAnswer). plan_text problem.grid.width (record { version = Two; agents = length problem.agents; answer = a })) is in
+      ap (λ (t : PlanText). t.answer) (law problem.grid plan _ _ is_grid spelled.in_range own spelled.spelled text_is)
 
-  pub prints : (kind : Kind) → IsKindOf verdict answer kind → Prints problem kind plan cert
-  prints (Found cost) is = prints_optimal problem plan cert good.tree cost truth.says spelled (claimed _ (claim_of_cost accepted.claimed cost (fits _ is))) (true_of _ is) (accepted_with _ is)
-  prints Impossible is = prints_impossible problem plan cert good.tree truth.says spelled (claimed _ (claim_of_impossible accepted.claimed (fits _ is))) (true_of _ is) (accepted_with _ is)
+  pub prints : (kind : Kind) → IsKindOf verdict answer kind → Prints Cbsh problem kind plan cert
+  prints (Found cost) (is, paths, answer_is) =
+      let same = mark_of_cost problem paths claim (good_of _ answer_is) ∙ marked in
+      prints_optimal problem plan cert cost truth.says spelled (certified _ (claim_of_cost accepted.answer accepted.claimed cost (fits _ is) same)) (true_of _ is) (accepted_with _ is)
+  prints Impossible (is, answer_is) =
+      let same = mark_of_impossible problem claim (good_of _ answer_is) ∙ marked in
+      prints_impossible problem plan cert truth.says spelled (certified _ (claim_of_impossible accepted.claimed same)) (true_of _ is) (accepted_with _ is)
   prints (Limit cause bound) (is, says, answer_is) =
       let same = says_is cause says answer_is in
-      prints_limit problem plan cert good.tree cause bound says
+      let kind = mark_of_bound problem cause says claim (good_of _ answer_is) ∙ marked in
+      prints_limit problem plan cert cause bound says
       (subst (SpellsPlan problem.grid plan Two (length problem.agents)) same spelled)
-      (claimed _ (claim_of_bound accepted.claimed bound (fits _ is)))
+      (certified _ (claim_of_bound accepted.answer accepted.claimed bound (fits _ is) kind))
       (subst (λ (a : PlanAnswer). IsTrueOf problem a (verdicts.Bound bound)) same (true_of _ is))
       (accepted_with _ is)

@@ -17,6 +17,7 @@ use Rattle.mapf_model.specs.Laws.{SumsAreOne}
 use Rattle.mapf_model.specs.Plan.{Instance, IsSumOfCosts}
 use Rattle.mapf_model.specs.Printed.{IsClaimInRange}
 use Rattle.mapf_model.specs.Tree.{ConstraintTree, Node}
+use Rattle.mapf_words.specs.declared.job.Search.TheVariants.{Cbs}
 
 -- the certificate of these nodes
 abbrev pub text_of : Instance → Claim → List Node → List ℕ
@@ -42,10 +43,10 @@ module _ (problem : Instance) (plan : List (List ℕ)) (nodes : List Node) (law 
   same_sum : (tree : ConstraintTree) (shown : IsShownOptimal problem plan tree) → shown.total ≡ sum
   same_sum tree shown = (law problem plan shown.optimal.valid).one shown.total sum shown.optimal.sum adds_up
 
-  pub prints_optimal : (tree : ConstraintTree) → IsPrintable problem nodes tree → IsShownOptimal problem plan tree → PrintsOptimal problem sum plan_text (text_of problem (Cost sum) nodes)
+  pub prints_optimal : (tree : ConstraintTree) → IsPrintable problem nodes tree → IsShownOptimal problem plan tree → PrintsOptimal Cbs problem sum plan_text (text_of problem (Cost sum) nodes)
   prints_optimal tree printable shown =
       let cert = spells_cert problem (Cost shown.total) nodes tree printable spells.in_range.0 shown.claim_in_range in
-      subst (λ total. PrintsOptimal problem total plan_text (text_of problem (Cost total) nodes)) (same_sum tree shown) (record {
+      subst (λ total. PrintsOptimal Cbs problem total plan_text (text_of problem (Cost total) nodes)) (same_sum tree shown) (record {
         paths = plan;
         spelled = spells;
         certified = (tree, cert);
@@ -65,7 +66,7 @@ module _ (problem : Instance) (plan : List (List ℕ)) (nodes : List Node) (law 
 
 module _ (problem : Instance) (nodes : List Node) (plan_text : List ℕ) where
   module _ (spells : SpellsPlan problem.grid plan_text Two (length problem.agents) answers.Impossible) where
-    pub prints_impossible : (tree : ConstraintTree) → IsPrintable problem nodes tree → IsShownImpossible problem tree → PrintsImpossible problem plan_text (text_of problem Impossible nodes)
+    pub prints_impossible : (tree : ConstraintTree) → IsPrintable problem nodes tree → IsShownImpossible problem tree → PrintsImpossible Cbs problem plan_text (text_of problem Impossible nodes)
     prints_impossible tree printable shown =
         let cert = spells_cert problem Impossible nodes tree printable spells.in_range.0 tt in
         record {
@@ -85,7 +86,7 @@ module _ (problem : Instance) (nodes : List Node) (plan_text : List ℕ) where
     policy_impossible limit (tree, of, shown) = spells_chosen problem limit Impossible nodes tree of spells.in_range.0 tt
 
   module _ (cause : Cause) (bound : ℕ) (spells : SpellsPlan problem.grid plan_text Two (length problem.agents) (answers.Bounded cause bound)) where
-    pub prints_limit : (tree : ConstraintTree) → IsPrintable problem nodes tree → IsShownBound problem bound tree → PrintsLimit problem cause bound plan_text (text_of problem (Bound bound) nodes)
+    pub prints_limit : (tree : ConstraintTree) → IsPrintable problem nodes tree → IsShownBound problem bound tree → PrintsLimit Cbs problem cause bound plan_text (text_of problem (Bound bound) nodes)
     prints_limit tree printable shown =
         let cert = spells_cert problem (Bound bound) nodes tree printable spells.in_range.0 shown.claim_in_range in
         record {

@@ -7,6 +7,7 @@ use Rattle.mapf_app.specs.declared.checked.Unaccepted.TheVariants as unaccepted
 use Rattle.mapf_app.specs.declared.kind.Kind.{Kind}
 use Rattle.mapf_app.specs.declared.kind.Kind.TheVariants.{Found, Impossible, Limit}
 use Rattle.mapf_certificate.specs.Plans.{IsCauseInRange}
+use Rattle.mapf_certificate.specs.declared.cert.CertFault.TheVariants as certs
 use Rattle.mapf_certificate.specs.declared.plan_text.PlanAnswer.{PlanAnswer}
 use Rattle.mapf_certificate.specs.declared.plan_text.PlanAnswer.TheVariants as answers
 use Rattle.mapf_checker.specs.Faults.{HasNoTextMemory}
@@ -16,6 +17,8 @@ use Rattle.mapf_checker.specs.declared.fault.CheckFault.{CheckFault}
 use Rattle.mapf_checker.specs.declared.fault.CheckFault.TheVariants as refusals
 use Rattle.mapf_checker.specs.declared.fault.Verdict.{Verdict}
 use Rattle.mapf_checker.specs.declared.fault.Verdict.TheVariants as verdicts
+use Rattle.mapf_lemma_texts.specs.declared.cert_writer.WriteFault.{WriteFault}
+use Rattle.mapf_lemma_texts.specs.declared.cert_writer.WriteFault.TheVariants as unwritten
 use Rattle.mapf_model.specs.Limits.{greatest_sum}
 use Rattle.mapf_model.specs.Plan.{Instance}
 use Rattle.mapf_model.specs.declared.item.Claim.{Claim}
@@ -40,10 +43,11 @@ IsBoundInRange answers.Impossible = ⊤
 IsBoundInRange (answers.Limit cause) = ⊥
 IsBoundInRange (answers.Bounded cause bound) = IsCauseInRange cause × (bound ≤ greatest_sum)
 
--- the verdict is that of this answer of a run, and the cause of a limit is that of the plan text's answer
+-- the verdict and the plan text's answer are those of this answer of a run
 abbrev pub IsKindOf : Verdict → PlanAnswer → Kind → Type 0
-IsKindOf verdict answer (Found cost) = verdict ≡ verdicts.Optimal cost
-IsKindOf verdict answer Impossible = verdict ≡ verdicts.Impossible
+IsKindOf verdict answer (Found cost) =
+    (verdict ≡ verdicts.Optimal cost) × (plan : List (List ℕ)) × (answer ≡ answers.Found plan)
+IsKindOf verdict answer Impossible = (verdict ≡ verdicts.Impossible) × (answer ≡ answers.Impossible)
 IsKindOf verdict answer (Limit cause bound) =
     (verdict ≡ verdicts.Bound bound) × (says : ℕ) × (answer ≡ answers.Bounded cause says)
 
@@ -51,6 +55,12 @@ IsKindOf verdict answer (Limit cause bound) =
 abbrev pub of_check : CheckFault → Unaccepted
 of_check refusals.Memory = unaccepted.Memory
 of_check fault = unaccepted.Refused fault
+
+-- why no certificate was written: it lists more than a text can count, which is refused as a number out of its range is
+-- (the line is that of the first part), or memory ran out
+abbrev pub of_write : WriteFault → Unaccepted
+of_write unwritten.TooMany = unaccepted.Refused (refusals.C2 (certs.K3 4))
+of_write unwritten.Memory = unaccepted.Memory
 
 -- the refusal isn't out of memory, also not inside an error of a text
 abbrev pub HasNoCheckMemory : CheckFault → Type 0

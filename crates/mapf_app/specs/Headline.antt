@@ -23,16 +23,18 @@ use Rattle.mapf_checker.specs.Verdict.{AreAccepted, IsTrueOf}
 use Rattle.mapf_checker.specs.declared.fault.Verdict.{Verdict}
 use Rattle.mapf_checker.specs.declared.fault.Verdict.TheVariants as verdicts
 use Rattle.mapf_model.specs.Plan.{Instance}
+use Rattle.mapf_words.specs.declared.job.Search.{Search}
 
 -- what is printed for the problem that the map and the scenario spell: an optimal plan, or 'impossible' if no plan is
 -- valid, or a bound such that no valid plan has a smaller sum of costs, beside the cause that the text names
--- (Policy.antt says that it is justified); each with a certificate with which both texts are accepted
-pub record PrintsTruly (map scen : Option (List ℕ)) (count : ℕ) (kind : Kind) (plan_bytes cert_bytes : List ℕ)
-    : Type 0 where
+-- (Policy.antt says that it is justified); each with a certificate with which both texts are accepted, of the version
+-- in which the search writes whose answer it is
+pub record PrintsTruly (map scen : Option (List ℕ)) (count : ℕ) (search : Search) (kind : Kind)
+    (plan_bytes cert_bytes : List ℕ) : Type 0 where
   pub problem : Instance
   pub posed : IsPosed count problem
   pub read : SpellsProblem map scen count problem
-  pub printed : Prints problem kind plan_bytes cert_bytes
+  pub printed : Prints search problem kind plan_bytes cert_bytes
 
 -- what a verdict on two texts says, whoever wrote them, for the problem that the map and the scenario spell: the plan
 -- of the plan text is optimal with the verdict's sum; or it is valid with this sum, and every valid plan has at least
@@ -71,6 +73,6 @@ IsVerdictFor (Limit cause bound) verdict = verdict ≡ verdicts.Bound bound
 -- what is printed has to be accepted, by whoever checks it for the same map, scenario and number of agents
 abbrev pub PrintedIsDue : Type 0
 PrintedIsDue =
-    (map scen plan cert : List ℕ) (count : ℕ) (kind : Kind) (verdict : Verdict) →
-    PrintsTruly (Some map) (Some scen) count kind plan cert → IsVerdictFor kind verdict →
+    (map scen plan cert : List ℕ) (count : ℕ) (search : Search) (kind : Kind) (verdict : Verdict) →
+    PrintsTruly (Some map) (Some scen) count search kind plan cert → IsVerdictFor kind verdict →
     IsDueVerdict (Some map) (Some scen) (Some plan) (Some cert) count verdict

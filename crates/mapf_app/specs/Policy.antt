@@ -15,6 +15,7 @@ use Rattle.mapf_model.specs.declared.item.Claim.{Claim}
 use Rattle.mapf_model.specs.declared.item.Claim.TheVariants as claims
 use Rattle.mapf_model.specs.Plan.{Instance}
 use Rattle.mapf_model.specs.Tree.{ConstraintTree}
+use Rattle.mapf_words.specs.declared.job.Search.TheVariants.{Cbs}
 
 -- the bytes spell a certificate of version 2 with the claim and with a tree as the search promises, of at most so many
 -- splits
@@ -45,10 +46,10 @@ IsSolvedByPolicy problem limit solved =
 -- an answer of plain search and its two texts: they are true, and follow the search's policy
 abbrev pub IsPlainAnswer : Instance → ℕ → Kind → List ℕ → List ℕ → Type 0
 IsPlainAnswer problem limit kind plan cert =
-    Prints problem kind plan cert × FollowsPolicy problem limit kind plan cert
+    Prints Cbs problem kind plan cert × FollowsPolicy problem limit kind plan cert
 
 -- what is printed for the problem that the map and the scenario spell is true, and follows the search's policy
 pub record PrintsByPolicy (map scen : Option (List ℕ)) (count limit : ℕ) (kind : Kind) (plan cert : List ℕ)
     : Type 0 where
-  pub truly : PrintsTruly map scen count kind plan cert
+  pub truly : PrintsTruly map scen count Cbs kind plan cert
   pub policy : FollowsPolicy truly.problem limit kind plan cert

@@ -6,15 +6,18 @@ ghost use Rattle.mapf_app.specs.Checked.{HasNoRefusedMemory, IsBoundInRange, IsK
 ghost use Rattle.mapf_app.specs.Solved.{Prints};
 ghost use Rattle.mapf_certificate.specs.Plans.{IsCauseInRange};
 ghost use Rattle.mapf_checker.specs.declared.fault.Verdict.{Verdict};
+ghost use Rattle.mapf_checker.specs.Verdict.{IsGoodFor};
 ghost use Rattle.mapf_model.specs.Limits.{most_splits};
+ghost use Rattle.mapf_words.specs.declared.job.Search.TheVariants.{Cbsh};
 
 use crate::kind::Kind;
-use mapf_cbsh::{Outcome, search_watched};
 use mapf_certificate::laws::plans_are_spelled_apart;
-use mapf_certificate::{Cert, PlanAnswer, PlanText, Version, write_cert, write_plan};
+use mapf_certificate::{CertFault, PlanAnswer, PlanText, Version, write_plan};
 use mapf_checker::{CheckFault, Verdict, check, check_plan};
+use mapf_groups::{Outcome, search_watched};
+use mapf_lemma_texts::{Part, WriteFault, write_lemma_cert};
 use mapf_model::limits::GREATEST_SUM;
-use mapf_model::{Cause, Claim, Item, OutOfMemory, Problem, Watcher};
+use mapf_model::{Cause, Claim, OutOfMemory, Problem, Watcher};
 use std::alloc::Global;
 
 /// An answer with its two texts, which the check accepted.
@@ -60,6 +63,20 @@ impl From<CheckFault> for Unaccepted {
     }
 }
 
+impl From<WriteFault> for Unaccepted {
+    ghost use Rattle.std.specs.Prelude.{◌≡◌};
+    ghost use Rattle.mapf_app.specs.Checked.{of_write};
+
+    ghost from_gives = { λ fault given. given ≡ of_write fault };
+
+    fn from(fault: WriteFault) -> Unaccepted {
+        match fault {
+            WriteFault::TooMany => Unaccepted::Refused(CheckFault::C2(CertFault::K3(4))),
+            WriteFault::Memory => Unaccepted::Memory,
+        }
+    }
+}
+
 /// Searches by `cbsh` with at most `limit` splits, and checks the answer. Returns why it is refused otherwise, or that
 /// memory ran out.
 pub fn search_checked<W: Watcher>(
@@ -70,12 +87,12 @@ pub fn search_checked<W: Watcher>(
 ) -> Result<Checked, Unaccepted>
     requires { limit ≤ most_splits }
     ensures prints { IfOk result (λ checked.
-        Prints problem.now checked.kind checked.plan.items checked.cert.items) }
+        Prints Cbsh problem.now checked.kind checked.plan.items checked.cert.items) }
     ensures limit { IfOk result (λ checked. IsLimitedBy limit checked.kind) }
     ensures inner { IfErr result HasNoRefusedMemory }
 {
     match search_watched(alloc, problem, limit, watcher)? {
-        Outcome::Found { plan, tree } => {
+        Outcome::Found { plan, parts } => {
             if plan.paths().len() != problem.agents().len() {
                 return Err(Unaccepted::Refused(CheckFault::C3));
             }
@@ -85,27 +102,31 @@ pub fn search_checked<W: Watcher>(
                     problem,
                     PlanAnswer::Found(plan),
                     Claim::Cost(sum),
-                    tree,
+                    &parts,
                 ),
                 Err(fault) => Err(Unaccepted::Refused(CheckFault::C5(fault))),
             }
         }
-        Outcome::Impossible { tree } => {
+        Outcome::Impossible { parts } => {
             judged(
                 alloc,
                 problem,
                 PlanAnswer::Impossible,
                 Claim::Impossible,
-                tree,
+                &parts,
             )
         }
-        Outcome::Limit { cause, bound, tree } => {
+        Outcome::Limit {
+            cause,
+            bound,
+            parts,
+        } => {
             let bound = bound.min(GREATEST_SUM);
             let answer = PlanAnswer::Bounded {
                 cause: cause_within(cause, limit),
                 bound,
             };
-            judged(alloc, problem, answer, Claim::Bound(bound), tree)
+            judged(alloc, problem, answer, Claim::Bound(bound), &parts)
         }
     }
 }
@@ -122,17 +143,18 @@ fn cause_within(cause: Cause, limit: u32) -> Cause
     }
 }
 
-// Makes the two texts of an answer, and returns them if the check accepts them.
+// Makes the plan text of an answer and the certificate of its claim, and returns them if the check accepts them.
 fn judged(
     alloc: Global,
     problem: &Problem,
     answer: PlanAnswer,
     claim: Claim,
-    tree: Vec<Item>,
+    parts: &[Part],
 ) -> Result<Checked, Unaccepted>
-    requires { IsBoundInRange answer }
+    requires range { IsBoundInRange answer }
+    requires claim { IsGoodFor problem.now answer claim }
     ensures prints { IfOk result (λ checked.
-        Prints problem.now checked.kind checked.plan.items checked.cert.items) }
+        Prints Cbsh problem.now checked.kind checked.plan.items checked.cert.items) }
     ensures kind { IfOk result (λ checked. (verdict : Verdict) × IsKindOf verdict answer checked.kind) }
     ensures inner { IfErr result HasNoRefusedMemory }
 {
@@ -140,20 +162,13 @@ fn judged(
     // Calling `width` lets the prover use its contract, which says that the grid is well formed.
     let _width = problem.grid().width();
     let agents = problem.agents().len() as u32;
-    let version = Version::Two;
     let text = PlanText {
-        version,
+        version: Version::Two,
         agents,
         answer,
     };
-    let cert = Cert {
-        version,
-        agents,
-        claim,
-        tree,
-    };
     let plan = write_plan(alloc, &text, problem.grid())?;
-    let cert = write_cert(alloc, &cert, problem.grid())?;
+    let cert = write_lemma_cert(alloc, problem.grid(), agents, claim, parts)?;
     let verdict = check(alloc, problem, &plan, &cert)?;
     match kind_of(verdict, &text.answer) {
         Some(kind) => Ok(Checked { kind, plan, cert }),

@@ -11,6 +11,7 @@ ghost use Rattle.mapf_app.specs.Runs.{ReportsSinks, WritesTexts, ReportsSource, 
 ghost use Rattle.mapf_app.specs.Solved.{Prints};
 ghost use Rattle.mapf_model.specs.Limits.{most_agents, most_splits, most_text_bytes};
 ghost use Rattle.mapf_model.specs.Plan.{Instance};
+ghost use Rattle.mapf_words.specs.declared.job.Search.TheVariants.{Cbs};
 
 use crate::answer_writer::write_plain;
 use crate::fault::{Fault, Input};
@@ -37,7 +38,7 @@ pub fn run_solve<M: Source, S: Source, P: Sink, C: Sink>(
     // A printed plan is optimal, 'impossible' is printed only if no plan is valid, a bound only if no valid plan has a
     // smaller sum of costs, and both texts are accepted for the problem that was read. A sink that failed got a prefix
     // of such a text.
-    ensures printed { WritesTexts result (PrintsTruly (M.remaining map.old) (S.remaining scen.old) k)
+    ensures printed { WritesTexts result (PrintsTruly (M.remaining map.old) (S.remaining scen.old) k Cbs)
         (P.contents plan_sink.old) (P.contents plan_sink.new) (C.contents cert_sink.old) (C.contents cert_sink.new) }
     // These texts can be chosen so that they are also as plain conflict-based search promises. The certificate has a
     // tree of at most `limit` splits, each on the first conflict of the first cheapest paths at a node with a sum no
@@ -51,7 +52,7 @@ pub fn run_solve<M: Source, S: Source, P: Sink, C: Sink>(
     ensures due { (problem : Instance) → IsSome (M.remaining map.old) → IsSome (S.remaining scen.old) →
         SpellsProblem (M.remaining map.old) (S.remaining scen.old) k problem →
         MatchResult result (λ kind. (plan_text : List ℕ) × (cert_text : List ℕ)
-        × Prints problem kind plan_text cert_text
+        × Prints Cbs problem kind plan_text cert_text
         × Appends (P.contents plan_sink.old) (P.contents plan_sink.new) plan_text
         × Appends (C.contents cert_sink.old) (C.contents cert_sink.new) cert_text) IsOfDevices }
     // Each reported error is one that the inputs have, and its location is correct.

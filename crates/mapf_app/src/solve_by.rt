@@ -1,7 +1,7 @@
 //! The run of `solve` by a search of the user's choice. What the second search answers is checked before it is written.
 ghost use Rattle.std.specs.Prelude.{◌≡◌, ◌≢◌, ◌≤◌, ℕ, List, false, IfErr, IfOk, IfSome, IsSome, MatchResult};
 ghost use Rattle.std.specs.Io.KnownBytes.{Appends};
-ghost use Rattle.mapf_app.specs.Answered.{IsLimitedBy, IsOfPlainSearch};
+ghost use Rattle.mapf_app.specs.Answered.{IsLimitedBy, IsOfPlainSearch, answering};
 ghost use Rattle.mapf_app.specs.Checked.{HasNoCheckMemory};
 ghost use Rattle.mapf_app.specs.Faults.{HasNoInnerMemory, IsOfDevices, IsOfMap, IsSolving};
 ghost use Rattle.mapf_app.specs.Headline.{PrintsTruly};
@@ -33,10 +33,10 @@ pub struct Asked<'w, W: Watcher> {
     pub watcher: &'w mut W,
 }
 
-/// Solves the problem of the first agents of a scenario by the search that is asked for, and writes the plan text and
-/// then the certificate, both in version 2. Reads the map and then the scenario. Nothing is written before all memory
-/// was allocated. What the second search answers is checked before it is written; if it is refused, plain search solves
-/// the problem with the same limit.
+/// Solves the problem of the first agents of a scenario by the search that is asked for, and writes the plan text, in
+/// version 2, and then the certificate: that of plain search in version 2, that of the second search in version 3.
+/// Reads the map and then the scenario. Nothing is written before all memory was allocated. What the second search
+/// answers is checked before it is written; if it is refused, plain search solves the problem with the same limit.
 pub fn run_solve_by<W: Watcher, M: Source, S: Source, P: Sink, C: Sink>(
     alloc: Global,
     map: &mut M,
@@ -49,10 +49,11 @@ pub fn run_solve_by<W: Watcher, M: Source, S: Source, P: Sink, C: Sink>(
         × (P.has_failed plan_sink.old ≡ false) × (C.has_failed cert_sink.old ≡ false) }
     requires range { (1 ≤ asked.k) × (asked.k ≤ most_agents) × (asked.limit ≤ most_splits) }
     // A printed plan is optimal, 'impossible' is printed only if no plan is valid, a bound only if no valid plan has a
-    // smaller sum of costs, and both texts are accepted for the problem that was read. A sink that failed got a prefix
-    // of such a text.
+    // smaller sum of costs, and both texts are accepted for the problem that was read. The certificate is of version 2
+    // if the answer is plain search's, and else of version 3. A sink that failed got a prefix of such a text.
     ensures printed { WritesTexts result
-        (λ answer. PrintsTruly (M.remaining map.old) (S.remaining scen.old) asked.entry.k answer.kind)
+        (λ answer. PrintsTruly (M.remaining map.old) (S.remaining scen.old) asked.entry.k
+        (answering asked.entry.search answer.refused) answer.kind)
         (P.contents plan_sink.old) (P.contents plan_sink.new) (C.contents cert_sink.old) (C.contents cert_sink.new) }
     // If the answer is plain search's, these texts can be chosen so that they are also as `run_solve` promises.
     ensures policy { WritesTexts result (λ answer plan cert. IsOfPlainSearch asked.entry.search answer →
@@ -68,7 +69,7 @@ pub fn run_solve_by<W: Watcher, M: Source, S: Source, P: Sink, C: Sink>(
     ensures due { (problem : Instance) → IsSome (M.remaining map.old) → IsSome (S.remaining scen.old) →
         SpellsProblem (M.remaining map.old) (S.remaining scen.old) asked.entry.k problem →
         MatchResult result (λ answer. (plan_text : List ℕ) × (cert_text : List ℕ)
-        × Prints problem answer.kind plan_text cert_text
+        × Prints (answering asked.entry.search answer.refused) problem answer.kind plan_text cert_text
         × Appends (P.contents plan_sink.old) (P.contents plan_sink.new) plan_text
         × Appends (C.contents cert_sink.old) (C.contents cert_sink.new) cert_text) IsOfDevices }
     // Each reported error is one that the inputs have, and its location is correct.

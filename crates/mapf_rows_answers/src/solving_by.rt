@@ -24,8 +24,12 @@ const PROBLEMS: &[(Given, u32)] = &[
     (ROTATION, 0),
 ];
 
-// Problems that no search solves without a split, and the sum of the costs of the agents' shortest paths.
-const STOPPED: &[(Given, u64)] = &[(CROSSING, 4), (NICHE, 2), (SHARED_START, 3), (EXCHANGE, 2)];
+// Problems that plain search doesn't solve without a split.
+const STOPPED: &[Given] = &[CROSSING, NICHE, SHARED_START, EXCHANGE];
+
+// Problems of two agents that the second search doesn't solve without a split either, and the least sum of their costs:
+// their joint states show that they cost as much.
+const BOUNDED: &[(Given, u64)] = &[(CROSSING, 5), (NICHE, 4)];
 
 fn solved_by(alloc: Global, given: &Given, search: Search, limit: u32) -> Result<SolvedBy, Fail> {
     if given.k < 1 || 200 < given.k || 100_000 < limit {
@@ -74,7 +78,7 @@ fn writes_the_same_by_plain_search(rt: HostRuntime) -> Result<(), Fail> {
     for (given, limit) in PROBLEMS {
         assert_plain(&rt, rt.alloc(), given, *limit)?;
     }
-    for (given, _) in STOPPED {
+    for given in STOPPED {
         assert_plain(&rt, rt.alloc(), given, 0)?;
     }
     Ok(())
@@ -104,7 +108,7 @@ fn answers_the_same_by_the_second_search(rt: HostRuntime) -> Result<(), Fail> {
 
 #[test]
 fn tells_the_bound_of_the_root(rt: HostRuntime) -> Result<(), Fail> {
-    for (given, bound) in STOPPED {
+    for (given, bound) in BOUNDED {
         let run = solved_by(rt.alloc(), given, Search::Cbsh, 0)?;
         let kind = Kind::Limit {
             cause: Cause::Splits(0),
@@ -115,13 +119,23 @@ fn tells_the_bound_of_the_root(rt: HostRuntime) -> Result<(), Fail> {
     Ok(())
 }
 
+// Two agents with one start, and two that can't pass each other.
+#[test]
+fn sees_without_a_split_that_no_plan_is_valid(rt: HostRuntime) -> Result<(), Fail> {
+    for given in [&SHARED_START, &EXCHANGE] {
+        let run = solved_by(rt.alloc(), given, Search::Cbsh, 0)?;
+        assert_answered(&rt, rt.alloc(), given, &run, Kind::Impossible)?;
+    }
+    Ok(())
+}
+
 #[test]
 fn writes_a_certificate_of_one_leaf_where_nothing_is_split(rt: HostRuntime) -> Result<(), Fail> {
     let run = solved_by(rt.alloc(), &ROTATION, Search::Cbsh, 0)?;
     assert_text(
         &rt,
         run.cert.bytes(),
-        "mapf-cert 2\nagents 4\nclaim cost 4\nleaf 0\nend\n",
+        "mapf-cert 3\nagents 4\nclaim cost 4\nprices 0\nlemmas 0\nleaf 0 0 -\nend\n",
     );
     Ok(())
 }

@@ -6,7 +6,7 @@ use mapf_app::{Answered, Asked, Fault, Output, Search, run_solve_by};
 use mapf_model::devices::{FuseSink, Pace};
 use mapf_model::{BytesSource, OutOfMemory, Unwatched};
 use mapf_rows::Given;
-use mapf_rows::problems::{CROSSING, EXCHANGE, NICHE, SHARED_GOAL, SHARED_START};
+use mapf_rows::problems::{CROSSING, CROSSING_MAP, NICHE, SHARED_GOAL, SHARED_START};
 use mapf_rows_runs::{SolvedBy, solve_by};
 use std::alloc::Global;
 use std::process::Abort;
@@ -15,13 +15,21 @@ use std::test::Fail;
 // More bytes than any text here has.
 const ROOM: usize = 1000;
 
-// Problems with how many splits are allowed: two plans, a bound at the root and one after splits, and two problems
+// Three agents on an open square. The first and the third are opposed, and the second crosses their way.
+const OPPOSED: Given = Given {
+    map: CROSSING_MAP,
+    scen: "version 1\n0\ta.map\t3\t3\t0\t1\t2\t1\t2\n0\ta.map\t3\t3\t1\t0\t1\t2\t2\n\
+0\ta.map\t3\t3\t2\t1\t0\t1\t2\n",
+    k: 3,
+};
+
+// Problems with how many splits are allowed: two plans, a bound at the root and one after a split, and two problems
 // without a plan.
 const CASES: &[(Given, u32)] = &[
     (CROSSING, 10),
     (NICHE, 5),
     (CROSSING, 0),
-    (EXCHANGE, 3),
+    (OPPOSED, 1),
     (SHARED_START, 1),
     (SHARED_GOAL, 0),
 ];

@@ -169,7 +169,7 @@ fn shows_help(rt: HostRuntime) -> Result<(), Fail> {
 
 const VERSION: &str = "mapf 1.0.0
 reads plan texts 1 and 2, certificates 1, 2 and 3, event texts 1
-writes plan texts 2, certificates 2
+writes plan texts 2, certificates 2 and 3
 ";
 
 #[test]

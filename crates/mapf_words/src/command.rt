@@ -19,7 +19,7 @@ Without arguments it solves and checks a small built-in problem.";
 // The program's version, and below it those of the texts. Both are defined here only.
 const VERSION: &str = "1.0.0
 reads plan texts 1 and 2, certificates 1, 2 and 3, event texts 1
-writes plan texts 2, certificates 2";
+writes plan texts 2, certificates 2 and 3";
 
 const OVERVIEW: &str = "Files:
   MAP     the grid: a MovingAI map of type octile

@@ -6,15 +6,16 @@ use Rattle.mapf_app.specs.declared.kind.Kind.TheVariants.{Found, Impossible, Lim
 use Rattle.mapf_checker.specs.Verdict.{AreAccepted}
 use Rattle.mapf_checker.specs.declared.fault.Verdict.{Verdict}
 use Rattle.mapf_model.specs.Plan.{Instance}
+use Rattle.mapf_words.specs.declared.job.Search.{Search}
 use Rattle.mapf_app.proofs.laws.printed_is_due.Goals as goal
 
-accepted_as : (problem : Instance) (kind : Kind) (verdict : Verdict) (plan cert : List ℕ) → Prints problem kind plan cert → IsVerdictFor kind verdict → AreAccepted problem plan cert verdict
-accepted_as problem (Found cost) verdict plan cert prints is = subst (AreAccepted problem plan cert) (sym is) prints.accepted
-accepted_as problem Impossible verdict plan cert prints is = subst (AreAccepted problem plan cert) (sym is) prints.accepted
-accepted_as problem (Limit cause bound) verdict plan cert prints is = subst (AreAccepted problem plan cert) (sym is) prints.accepted
+accepted_as : (search : Search) (problem : Instance) (kind : Kind) (verdict : Verdict) (plan cert : List ℕ) → Prints search problem kind plan cert → IsVerdictFor kind verdict → AreAccepted problem plan cert verdict
+accepted_as search problem (Found cost) verdict plan cert prints is = subst (AreAccepted problem plan cert) (sym is) prints.accepted
+accepted_as search problem Impossible verdict plan cert prints is = subst (AreAccepted problem plan cert) (sym is) prints.accepted
+accepted_as search problem (Limit cause bound) verdict plan cert prints is = subst (AreAccepted problem plan cert) (sym is) prints.accepted
 
 pub returns : goal.returns
-returns c = λ map scen plan cert count kind verdict truly is. record {
+returns c = λ map scen plan cert count search kind verdict truly is. record {
   map_told = refl;
   scen_told = refl;
   problem = truly.problem;
@@ -23,5 +24,5 @@ returns c = λ map scen plan cert count kind verdict truly is. record {
   plan_told = refl;
   cert_text = cert;
   cert_told = refl;
-  accepted = accepted_as truly.problem kind verdict plan cert truly.printed is;
+  accepted = accepted_as search truly.problem kind verdict plan cert truly.printed is;
 }
