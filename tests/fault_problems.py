@@ -12,7 +12,7 @@ EXAMPLES = TESTS.parent / "examples"
 MADE = ModuleType("make_examples")
 SourceFileLoader("make_examples", str(EXAMPLES / "make_examples")).exec_module(MADE)
 
-# With so many splits either search solves each of these problems that has a valid plan.
+# With so many splits either search solves each of these problems of fewer than 13 agents that has a valid plan.
 AMPLE = 100
 
 # Cases of `solve`: tiny problems, those without a valid plan among them, at limits of 0 and up.
@@ -51,6 +51,12 @@ DRAWN = [("open", 8, 2, AMPLE), ("open", 8, 2, 1), ("open", 10, 2, AMPLE), ("ope
          ("maze", 5, 1, AMPLE), ("maze", 5, 1, 5), ("maze", 6, 2, AMPLE), ("maze", 6, 3, AMPLE), ("maze", 6, 3, 1),
          ("corridors", 3, 1, AMPLE), ("corridors", 3, 1, 2), ("corridors", 4, 2, AMPLE), ("corridors", 5, 1, AMPLE)]
 
+# More agents, of which the second search searches groups by themselves, or packs what they cost more together.
+CROWDED = [("open", 13, 1, AMPLE), ("open", 15, 1, AMPLE), ("open", 16, 3, AMPLE), ("open", 18, 1, AMPLE),
+           ("random", 13, 4, AMPLE), ("random", 14, 1, AMPLE), ("random", 14, 7, AMPLE), ("random", 14, 4, AMPLE),
+           ("random", 15, 2, AMPLE), ("random", 15, 4, AMPLE), ("random", 16, 3, AMPLE), ("random", 18, 3, AMPLE),
+           ("maze", 13, 3, AMPLE), ("corridors", 14, 2, AMPLE)]
+
 
 @dataclass(frozen=True)
 class Problem:
@@ -81,7 +87,7 @@ def problems():
     maps = {name: text.split() for name, text in MAPS.items()}
     maps |= {"open": MADE.empty(8, 8), "random": MADE.random_obstacles(8, 8, 20, MADE.Numbers(8))}
     return [*(problem_of(Case(TESTS / "cases" / name)) for name in CASES), *(example(*words) for words in SOLVED),
-            *(drawn(maps[name], name, *numbers) for name, *numbers in DRAWN)]
+            *(drawn(maps[name], name, *numbers) for name, *numbers in DRAWN + CROWDED)]
 
 
 def problem_of(case):

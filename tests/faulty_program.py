@@ -9,7 +9,8 @@ from dataclasses import dataclass
 
 from clauses import CRATES, TOP, read
 
-SEARCH, LAYERS = "mapf_cbsh", "mapf_layers"
+# The second search, which the program calls. It stands on crates of its own.
+SEARCH = "mapf_groups"
 
 # The height of a map for the first fault. That of the others is greater, and of no problem's own map as great.
 FIRST = 100
@@ -74,11 +75,10 @@ def put_side_by_side(room, planted):
     """Makes the sources of the program in a folder: a copy of the second search without a fault and one with each, and
     in its place the choice between them.
     """
-    crates = copy_sources(room)
-    below = words_of(SEARCH)
+    crates, below = copy_sources(room), crates_below()
     lines = [line for line in read("crates.txt").splitlines() if not line.startswith(f"{SEARCH}:")]
     shutil.copytree(crates / SEARCH, crates / "search_0")
-    lines.append(f"search_0: {below}")
+    lines.append(f"search_0: {' '.join(below[SEARCH])}")
     for number, fault in enumerate(planted, 1):
         lines += put_fault(crates, number, fault, below)
     lines.append(f"{SEARCH}: mapf_model " + " ".join(f"search_{number}" for number in range(len(planted) + 1)))
@@ -89,25 +89,39 @@ def put_side_by_side(room, planted):
 
 
 def put_fault(crates, number, fault, below):
-    """Puts a search with a fault beside the others, and answers the lines of crates.txt for it."""
-    search, layers = f"search_{number}", f"layers_{number}"
+    """Puts a search with a fault beside the others: copies of the crate with the fault and of those of the search that
+    stand on it. Answers the lines of crates.txt for them.
+    """
+    names = {crate: f"{crate}_{number}" for crate in below if fault.crate in with_below(crate, below)}
+    names[SEARCH] = f"search_{number}"
     lines = []
-    shutil.copytree(crates / "search_0", crates / search)
-    put(crates / search / "src" / "outcome.rt", OUTCOME)
-    if fault.crate == LAYERS:
-        shutil.copytree(crates / LAYERS, crates / layers)
-        lines.append(f"{layers}: {words_of(LAYERS)}")
-        below = below.replace(LAYERS, layers)
-        for source in (crates / search / "src").glob("*.rt"):
-            put(source, source.read_text().replace(LAYERS, layers))
-    place = crates / (layers if fault.crate == LAYERS else search) / fault.file
-    put(place, fault.planted(place.read_text()))
-    return [*lines, f"{search}: {below} search_0"]
+    for crate, name in names.items():
+        shutil.copytree(CRATES / crate, crates / name, ignore=shutil.ignore_patterns("out", "must-fail"))
+        for source in (crates / name / "src").glob("*.rt"):
+            put(source, renamed(source.read_text(), names))
+        shared = ["search_0"] if crate == SEARCH else []
+        lines.append(f"{name}: {' '.join([*(names.get(it, it) for it in below[crate]), *shared])}")
+    put(crates / names[SEARCH] / "src" / "outcome.rt", OUTCOME)
+    planted = fault.planted((CRATES / fault.crate / fault.file).read_text())
+    put(crates / names[fault.crate] / fault.file, renamed(planted, names))
+    return lines
 
 
-def words_of(crate):
-    """What a crate stands on, as crates.txt has it."""
-    return re.search(rf"^{crate}: (.*)$", read("crates.txt"), re.MULTILINE)[1]
+def renamed(text, names):
+    """A source in which crates have the names of their copies."""
+    return re.sub(rf"\b({'|'.join(names)})\b", lambda found: names[found[1]], text)
+
+
+def crates_below():
+    """What the search and the crates below it stand on, in the order of crates.txt."""
+    listed = dict(re.findall(r"^(\w+): *(.*)$", read("crates.txt"), re.MULTILINE))
+    stands_on = {crate: below.split() for crate, below in listed.items()}
+    return {crate: below for crate, below in stands_on.items() if crate in with_below(SEARCH, stands_on)}
+
+
+def with_below(crate, stands_on):
+    """The crate and those below it."""
+    return {crate}.union(*(with_below(below, stands_on) for below in stands_on.get(crate, [])))
 
 
 def put(place, text):
