@@ -198,8 +198,8 @@ def makespan(path: str) -> int | None:
 
 
 def count_in(lines: bytes) -> int:
-    """How many of the lines that follow a line end are splits."""
-    return lines.count(b"\nvertex ") + lines.count(b"\nswap ")
+    """How many of the lines that follow a line end are splits, in the tree or in that of a lemma by cases."""
+    return sum(lines.count(word) for word in (b"\nvertex ", b"\nswap ", b"\ncost ", b"\ncosts "))
 
 
 if __name__ == "__main__":

@@ -19,8 +19,13 @@ EXAMPLES = TESTS.parent / "examples"
 CROSSING_MAP = "type octile\nheight 3\nwidth 3\nmap\n...\n...\n...\n"
 CROSSING_SCEN = "version 1\n0 c.map 3 3 0 1 2 1 2\n0 c.map 3 3 1 0 1 2 2\n"
 
-# Beside them, behind a wall, two agents that have a way round each other of the same cost. The least sum is 9, and a
-# search which may split once, on the first two, ends with the bound 9.
+# A third agent goes against the first. One of these two has to go round, by two steps more, and of the other one and
+# the second agent one has to wait, so that the least sum is 9. Each two of the three show less: a search that may not
+# split ends with the bound 8.
+THREE_SCEN = CROSSING_SCEN + "0 c.map 3 3 2 1 0 1 2\n"
+
+# Beside the two, behind a wall, two agents that have a way round each other of the same cost. The least sum is 9, and
+# plain search, if it may split once, on the first two, ends with the bound 9.
 ROOMS_MAP = "type octile\nheight 3\nwidth 7\nmap\n...@...\n...@...\n...@...\n"
 ROOMS_SCEN = ("version 1\n0 r.map 7 3 0 1 2 1 2\n0 r.map 7 3 1 0 1 2 2\n"
               "0 r.map 7 3 4 0 5 1 2\n0 r.map 7 3 6 0 4 0 2\n")
@@ -40,6 +45,10 @@ PATHS = {
 BEST = PATHS["cheapest"] + "Agent 2: (0,4)->(1,4)->(1,5)->\nAgent 3: (0,6)->(0,5)->(0,4)->\n"
 WAITS = PATHS["cheapest"] + "Agent 2: (0,4)->(1,4)->(1,5)->\nAgent 3: (0,6)->(0,6)->(0,5)->(0,4)->\n"
 ROOMS = {"grid": ROOMS_MAP, "scenario": ROOMS_SCEN, "agents": "4"}
+
+# A cheapest answer of the three, and what a call of it has besides.
+BEST_OF_THREE = PATHS["cheapest"] + "Agent 2: (1,2)->(0,2)->(0,1)->(0,0)->(1,0)->\n"
+THREE = {"scenario": THREE_SCEN, "agents": "3"}
 
 LACAM_HEAD = """agents=2
 map_file=c.map
@@ -231,7 +240,7 @@ def tests(tally):
     tally.add("verify, a folder that isn't empty", folder_kept())
     for name in FORMATS:
         tally.add(f"verify, pipes in place of files, {name}", piped(FORMATS[name]["cheapest"]))
-    for title, lines, asked in in_time() + by_cbs() + by_version_three():
+    for title, lines, asked in in_time() + by_cbs():
         tally.add(f"verify, {title}", faults_behind(lines, asked))
 
 
@@ -374,14 +383,19 @@ def that_are_not_valid():
 
 
 def by_bound():
-    """Searches that meet their limit: with a bound below the cost, and with one that is the cost."""
+    """Searches that meet their limit with a bound below the cost, and with one that is the cost; and those that go
+    beyond the first.
+    """
     apart = "Agent 0: (0,4)->(0,5)->(1,5)->\n"
     return [
-        Asked("verify, a limit of no splits", PATHS["cheapest"], 4,
-              "unknown: 5, no valid plan costs less than 4 (limit of 0 splits)\n", more=["--limit", "0"]),
-        Asked("verify, a bound below the cost", BEST, 4,
-              "unknown: 9, no valid plan costs less than 8 (limit of 0 splits)\n", more=["--limit", "0"], **ROOMS),
-        Asked("verify, a search beyond that bound", WAITS, 1, "not cheapest: 10, a plan of 9 is in FOUND\n", **ROOMS),
+        Asked("verify, a limit of no splits", BEST_OF_THREE, 4,
+              "within 8..9, a certificate of 8 is in CERT (limit of 0 splits)\n", more=["--limit", "0"],
+              noted="prints 'within 8 9': ", **THREE),
+        Asked("verify, a limit of no splits and a bound that is the cost", PATHS["cheapest"], 0, "cheapest: 5\n",
+              more=["--limit", "0"]),
+        Asked("verify, a search beyond that bound", BEST_OF_THREE, 0, "cheapest: 9\n", **THREE),
+        Asked("verify, two that have to wait and two that don't", BEST, 0, "cheapest: 9\n", **ROOMS),
+        Asked("verify, a wait too many", WAITS, 1, "not cheapest: 10, a plan of 9 is in FOUND\n", **ROOMS),
         Asked("verify, one agent by its distance", apart, 0, "cheapest: 2\n", more=["--limit", "0"], agents="1",
               grid=ROOMS_MAP, scenario="version 1\n0 r.map 7 3 4 0 5 1 2\n"),
     ]
@@ -395,17 +409,9 @@ def by_cbs():
          Asked("", BEST, 0, "cheapest: 9\n", **by_one,
                noted="its line 'claim bound 9' was changed into 'claim cost 9'")),
         ("a bound below the cost, by cbs", BY_CBS,
-         Asked("", WAITS, 4, "unknown: 10, no valid plan costs less than 9 (limit of 1 splits)\n", **by_one)),
+         Asked("", WAITS, 4, "within 9..10, a certificate of 9 is in CERT (limit of 1 splits)\n",
+               **{**by_one, "noted": "prints 'refused C4': "})),
     ]
-
-
-def by_version_three():
-    """A search without splits, whose certificate is put into version 3."""
-    solves = f'"{os.environ["MAPF"]}" "$@"; status=$?'
-    changes = r"""sed -i 's/^mapf-cert 2/mapf-cert 3/; s/^leaf 0/prices 0\nlemmas 0\nleaf 0 0 -/' "$9"; exit $status"""
-    return [("a bound of version 3 below the cost", f'[ "$1" != solve ] || {{ {solves}; {changes}; }}\n',
-             Asked("", PATHS["cheapest"], 4, "unknown: 5, no valid plan costs less than 4 (limit of 0 splits)\n",
-                   more=["--limit", "0"], noted="prints 'within 4 5': "))]
 
 
 def by_options():
@@ -426,9 +432,9 @@ def by_options():
         Asked("verify, a status of its own, not cheapest", PATHS["dearer"], 1, ANSWERED["dearer"][1],
               more=["--distinct-status"]),
         Asked("verify, time enough", PATHS["dearer"], 1, ANSWERED["dearer"][1], more=["--seconds", "60"]),
-        Asked("verify, time enough, and a limit of no splits", PATHS["cheapest"], 4,
-              "unknown: 5, no valid plan costs less than 4 (limit of 0 splits)\n",
-              more=["--limit", "0", "--seconds", "60"]),
+        Asked("verify, time enough, and a limit of no splits", BEST_OF_THREE, 4,
+              "within 8..9, a certificate of 8 is in CERT (limit of 0 splits)\n",
+              more=["--limit", "0", "--seconds", "60"], **THREE),
     ]
 
 
@@ -450,9 +456,9 @@ def in_time():
          Asked("", WAITS, 4, "unknown: 10 (limit of 0.5 seconds)\n", more=["--seconds", "0.5"],
                noted="one leaf doesn't show that it is cheapest", **ROOMS)),
         ("time for a search of no splits", HANGS_LATER,
-         Asked("", WAITS, 4, "unknown: 10, no valid plan costs less than 8 (limit of 5 seconds)\n",
-               noted="mapf solve --search cbsh problem.map problem.scen 4 0 found.txt cert.txt",
-               more=["--seconds", "5"], **ROOMS)),
+         Asked("", BEST_OF_THREE, 4, "within 8..9, a certificate of 8 is in CERT (limit of 5 seconds)\n",
+               noted="mapf solve --search cbsh problem.map problem.scen 3 0 found.txt cert.txt",
+               more=["--seconds", "5"], **THREE)),
     ]
 
 
@@ -491,17 +497,24 @@ def faults_of(asked):
     """How a call, and the same with --keep, differ from what is wanted, and how what is kept does."""
     with tempfile.TemporaryDirectory() as name:
         folder = Path(name)
-        faults = ended_faults(asked, called(asked, folder), rf"{folder}/tmp/mapf-verify-\w+/found\.txt")
+        faults = ended_faults(asked, called(asked, folder), rf"{folder}/tmp/mapf-verify-\w+")
         if asked.status != 2:
-            faults += ended_faults(asked, called(asked, folder, "--keep", "kept"), "kept/found.txt")
+            faults += ended_faults(asked, called(asked, folder, "--keep", "kept"), "kept")
             faults += kept_faults(folder / "kept", asked)
         return faults
 
 
-def ended_faults(asked, ended, found):
+# The words of what is wanted that stand for files in the folder that shows the answer.
+NAMED = {"FOUND": "found.txt", "CERT": "cert.txt"}
+
+
+def ended_faults(asked, ended, folder):
     """What differs in a call. Where its answer names a file in a folder that nobody named, it says that this stays."""
-    wanted = re.escape(asked.out).replace("FOUND", found)
-    stays = re.escape(asked.said) + ("verify: (.*) stays, .*\n" if "FOUND" in asked.out and "/tmp/" in found else "")
+    wanted = re.escape(asked.out)
+    for word, name in NAMED.items():
+        wanted = wanted.replace(word, f"{folder}/{re.escape(name)}")
+    is_named = wanted != re.escape(asked.out)
+    stays = re.escape(asked.said) + ("verify: (.*) stays, .*\n" if is_named and "/tmp/" in folder else "")
     faults = []
     if ended.returncode != asked.status:
         faults.append(f"status {ended.returncode}, wanted {asked.status}")
@@ -518,7 +531,10 @@ def kept_faults(kept, asked):
     if not (kept / "commands.txt").exists():
         return ["no commands.txt is kept"]
     note = (kept / "commands.txt").read_text()
-    wanted = [asked.out.replace("FOUND", "kept/found.txt"), asked.noted]
+    answer = asked.out
+    for word, name in NAMED.items():
+        answer = answer.replace(word, f"kept/{name}")
+    wanted = [answer, asked.noted]
     faults = [f"the note has no {part!r}: {note!r}" for part in wanted if part not in note]
     for words, line in re.findall(r"^    mapf (check .*)\n\nprints '(.*)': ", note, re.MULTILINE):
         ended = subprocess.run([os.environ["MAPF"], *words.split(" ")], cwd=kept, capture_output=True, text=True)
