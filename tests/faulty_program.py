@@ -102,8 +102,9 @@ def put_fault(crates, number, fault, below):
         shared = ["search_0"] if crate == SEARCH else []
         lines.append(f"{name}: {' '.join([*(names.get(it, it) for it in below[crate]), *shared])}")
     put(crates / names[SEARCH] / "src" / "outcome.rt", OUTCOME)
-    planted = fault.planted((CRATES / fault.crate / fault.file).read_text())
-    put(crates / names[fault.crate] / fault.file, renamed(planted, names))
+    for file in fault.files:
+        planted = fault.planted(file, (CRATES / fault.crate / file).read_text())
+        put(crates / names[fault.crate] / file, renamed(planted, names))
     return lines
 
 
