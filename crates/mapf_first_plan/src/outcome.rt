@@ -1,0 +1,13 @@
+//! The result of the search for a first plan.
+use mapf_model::Plan;
+
+/// How the search for a first plan ended.
+#[derive(Debug, Drop)]
+pub enum FirstPlan {
+    /// A plan, without waits at the ends of its paths.
+    Found(Plan),
+    /// No plan is valid: the search has met each configuration that can be reached. Nothing shows it to anybody else.
+    Impossible,
+    /// As many successors were tried as the bound allows.
+    Stopped,
+}
