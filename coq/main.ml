@@ -1,0 +1,68 @@
+(* mapf-recheck-coq MAP SCEN K PLAN CERT: opens the files, hands their bytes to the checker that Coq extracted, and
+   prints what it answers. A byte is handed over as one of Coq's binary numbers. *)
+
+open Checker
+
+let rec positive_of_int i =
+  if i = 1 then XH else if i land 1 = 0 then XO (positive_of_int (i lsr 1)) else XI (positive_of_int (i lsr 1))
+
+let bytes = Array.init 256 (fun i -> if i = 0 then N0 else Npos (positive_of_int i))
+
+let rec int_of_positive = function XH -> 1 | XO p -> 2 * int_of_positive p | XI p -> 2 * int_of_positive p + 1
+
+let char_of_byte = function N0 -> '\000' | Npos p -> Char.chr (int_of_positive p)
+
+(* The first bytes of a buffer as a list. *)
+let list_of buffer count =
+  let rec before i list = if i < 0 then list else before (i - 1) (bytes.(Char.code (Bytes.get buffer i)) :: list) in
+  before (count - 1) []
+
+let print text =
+  List.iter (fun byte -> print_char (char_of_byte byte)) text;
+  print_newline ()
+
+let fault line = prerr_endline line; exit 2
+
+let opened path = try open_in_bin path with Sys_error why -> fault why
+
+let whole path =
+  let file = opened path in
+  let text = Buffer.create 65536 in
+  let part = Bytes.create 65536 in
+  let rec go_on () =
+    match input file part 0 65536 with
+    | 0 -> ()
+    | count -> Buffer.add_subbytes text part 0 count; go_on () in
+  (try go_on () with Sys_error why -> fault why);
+  list_of (Buffer.to_bytes text) (Buffer.length text)
+
+(* Hands the certificate over in parts, and stops where it is refused. *)
+let read_certificate task file =
+  let part = Bytes.create 65536 in
+  let rec go_on reading =
+    match input file part 0 65536 with
+    | 0 -> reading
+    | count ->
+      let reading = take_bytes task reading (list_of part count) in
+      (match reading.its_state with Failed _ -> reading | _ -> go_on reading) in
+  try go_on begin0 with Sys_error why -> fault why
+
+let judge map scen number plan cert =
+  let file = opened cert in
+  match prepare (whole map) (whole scen) number (whole plan) with
+  | Bad why -> Bad why
+  | Good (task, verdict) ->
+    (match why_refused (read_certificate task file) with
+     | None -> Good verdict
+     | Some why -> Bad why)
+
+let () =
+  match Sys.argv with
+  | [| _; map; scen; k; plan; cert |] ->
+    (match read_number (list_of (Bytes.of_string k) (String.length k)) with
+     | None -> fault "mapf-recheck-coq: K isn't a number"
+     | Some number ->
+       let result = judge map scen number plan cert in
+       print (result_text result);
+       exit (match result with Good _ -> 0 | Bad _ -> 1))
+  | _ -> fault "usage: mapf-recheck-coq MAP SCEN K PLAN CERT"
