@@ -57,6 +57,7 @@ let judge map scen number plan cert =
      | Some why -> Bad why)
 
 let () =
+  Gc.set { (Gc.get ()) with Gc.minor_heap_size = 1 lsl 20; space_overhead = 300 };
   match Sys.argv with
   | [| _; map; scen; k; plan; cert |] ->
     (match read_number (list_of (Bytes.of_string k) (String.length k)) with
