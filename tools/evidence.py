@@ -11,6 +11,7 @@ import subprocess
 import sys
 import tempfile
 import time
+from dataclasses import dataclass
 from pathlib import Path
 from typing import overload
 
@@ -30,6 +31,32 @@ FACTOR = 4
 def rising_to(limit: int) -> list[int]:
     """The limits of a search that has so many seconds."""
     return sorted({0, limit, *(FACTOR ** power for power in range(1, 9) if FACTOR ** power < limit)})
+
+
+@dataclass(frozen=True)
+class Answer:
+    """What `mapf solve` printed: what no valid plan costs less than, and the cost of the plan that it wrote, if it wrote
+    one. The two are equal where the plan is cheapest.
+    """
+
+    line: str
+    least: int
+    cost: int | None
+
+    def says_more_than(self, cost: int) -> bool:
+        """Whether it settles what a plan of this cost is: cheapest, or not."""
+        return self.least >= cost or self.cost is not None and (self.cost < cost or self.cost == self.least)
+
+
+def answer_of(line: str) -> Answer | None:
+    """The answer that this line is, none where it tells of no cost and no bound."""
+    if found := re.fullmatch("cost ([0-9]+)", line):
+        return Answer(line, int(found[1]), int(found[1]))
+    if found := re.fullmatch("within ([0-9]+) ([0-9]+)", line):
+        return Answer(line, int(found[1]), int(found[2]))
+    if found := re.fullmatch("limit (?:[0-9]+|ticks) bound ([0-9]+)", line):
+        return Answer(line, int(found[1]), None)
+    return None
 
 
 class Evidence:
@@ -98,7 +125,8 @@ class Evidence:
             found = self.solve_with(limit, until)
             self.is_late = found is None
             line = found or line
-            if found is None or not re.match("limit [0-9]", found) or int(found.split(" ")[-1]) >= cost:
+            known = found and answer_of(found)
+            if not known or known.says_more_than(cost) or known.line.startswith("limit ticks "):
                 break
         return line
 

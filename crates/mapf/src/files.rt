@@ -22,11 +22,13 @@ pub struct ProblemFiles<'a> {
     pub k: u32,
 }
 
-/// By which search a problem is solved, and how many splits it may make: 0 to 100,000.
+/// By which search a problem is solved, how many splits it may make, 0 to 100,000, and how many improvements of its
+/// first plan the second search tries, 0 to 1,000,000.
 #[derive(Clone, Copy)]
 pub struct SolveOptions {
     pub search: Search,
     pub limit: u32,
+    pub improvements: u32,
 }
 
 impl ProblemFiles<'_> {
@@ -91,6 +93,7 @@ pub fn solve<'a>(
             search: options.search,
             k: problem.k,
             limit: options.limit,
+            improvements: options.improvements,
             watcher: &mut progress,
         },
         &mut WriteSink::of(&outputs.plan),

@@ -46,6 +46,7 @@ fn run(rt: &HostRuntime, job: &Job) -> ExitCode
                 SolveOptions {
                     search: Search::Cbs,
                     limit: *limit,
+                    improvements: 0,
                 },
                 plan,
                 cert,
@@ -57,6 +58,7 @@ fn run(rt: &HostRuntime, job: &Job) -> ExitCode
             scen,
             k,
             limit,
+            improvements,
             plan,
             cert,
         } => words::solved(
@@ -67,6 +69,7 @@ fn run(rt: &HostRuntime, job: &Job) -> ExitCode
                 SolveOptions {
                     search: *search,
                     limit: *limit,
+                    improvements: *improvements,
                 },
                 plan,
                 cert,

@@ -7,6 +7,8 @@ use std::io::{IsTerminal, Write};
 #[derive(Drop)]
 pub struct Progress<'a> {
     rt: &'a HostRuntime,
+    // The sum of costs of a plan that is known.
+    plan: Option<u64>,
     is_shown: bool,
 }
 
@@ -15,6 +17,7 @@ impl<'a> Progress<'a> {
     pub fn of(rt: &'a HostRuntime) -> Progress<'a> {
         Progress {
             rt,
+            plan: None,
             is_shown: false,
         }
     }
@@ -38,12 +41,30 @@ impl Watcher for Progress<'_> {
         if !self.rt.stderr().is_terminal() {
             return;
         }
-        let line = format!(in self.rt.alloc();
-            "\r\u{1b}[K{splits} splits, bound {bound} so far, {open} open"
-        );
+        let line = match self.plan {
+            Some(plan) => {
+                let (percent, tenth) = gap(plan, bound);
+                format!(in self.rt.alloc();
+                    "\r\u{1b}[K{splits} splits, plan {plan}, bound {bound} so far, gap {percent}.{tenth}%, {open} open"
+                )
+            }
+            None => format!(in self.rt.alloc();
+                "\r\u{1b}[K{splits} splits, bound {bound} so far, {open} open"
+            ),
+        };
         if let Ok(line) = line {
             self.write(&line);
             self.is_shown = true;
         }
     }
+
+    fn note_plan(&mut self, cost: u64) {
+        self.plan = Some(cost);
+    }
+}
+
+// Returns by how many per cent a plan of this cost is dearer than the bound, and the tenths of a per cent, rounded down.
+fn gap(cost: u64, bound: u64) -> (u64, u64) {
+    let tenths = cost.saturating_sub(bound).saturating_mul(1000) / bound.max(1);
+    (tenths / 10, tenths % 10)
 }

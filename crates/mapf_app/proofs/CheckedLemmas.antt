@@ -4,9 +4,9 @@ use Rattle.std.proofs.Common.{◌≡◌, ℕ, List, ◌++◌, length, slice_get,
 use Rattle.std.proofs.lemmas.List.{append_cancel_left}
 use Rattle.std.proofs.lemmas.Option.{same_Some}
 use Rattle.mapf_app.specs.Checked.{IsBoundInRange, IsKindOf}
-use Rattle.mapf_app.specs.Solved.{Prints, PrintsOptimal, PrintsImpossible, PrintsLimit, SpellsClaim}
+use Rattle.mapf_app.specs.Solved.{Prints, PrintsOptimal, PrintsImpossible, PrintsLimit, PrintsWithin, SpellsClaim}
 use Rattle.mapf_app.specs.declared.kind.Kind.{Kind}
-use Rattle.mapf_app.specs.declared.kind.Kind.TheVariants.{Found, Impossible, Limit}
+use Rattle.mapf_app.specs.declared.kind.Kind.TheVariants.{Found, Impossible, Limit, Within}
 use Rattle.mapf_certificate.specs.Certificates.{cert_text}
 use Rattle.mapf_certificate.specs.Plans.{IsPlanText, SpellsOnePlan, SpellsPlan, plan_text}
 use Rattle.mapf_certificate.specs.declared.plan_text.PlanAnswer.{PlanAnswer}
@@ -14,7 +14,7 @@ use Rattle.mapf_certificate.specs.declared.plan_text.PlanAnswer.TheVariants as a
 use Rattle.mapf_certificate.specs.declared.plan_text.PlanText.{PlanText}
 use Rattle.mapf_certificate.specs.declared.version.Version.{Version}
 use Rattle.mapf_certificate.specs.declared.version.Version.TheVariants.{One, Two}
-use Rattle.mapf_checker.specs.Verdict.{AreAccepted, IsGoodFor, IsGoodTreeCert, IsTrueText, IsTrueOf, IsVerdictOn}
+use Rattle.mapf_checker.specs.Verdict.{AreAccepted, IsGoodTreeCert, IsTrueText, IsTrueOf, IsVerdictOn}
 use Rattle.mapf_checker.specs.declared.fault.Verdict.{Verdict}
 use Rattle.mapf_checker.specs.declared.fault.Verdict.TheVariants as verdicts
 use Rattle.mapf_lemma_checker.specs.Whole.{IsGoodLemmaCert}
@@ -88,26 +88,21 @@ claim_of_bound answer claims.Impossible shown fits same = let differ : 98 ≡ 10
 claim_of_bound (claims.Cost cost) (claims.Bound claimed) shown fits same = absurd fits
 claim_of_bound claims.Impossible (claims.Bound claimed) shown fits same = absurd fits
 
+claim_of_within : (answer claimed : Claim) (shown cost : ℕ) → IsVerdictOn answer claimed (verdicts.Within shown cost) → claimed ≡ claims.Bound shown
+claim_of_within (claims.Cost cost) (claims.Bound claimed) shown sum fits = ap claims.Bound (sym fits.1)
+claim_of_within (claims.Cost cost) (claims.Cost claimed) shown sum fits = absurd fits
+claim_of_within (claims.Cost cost) claims.Impossible shown sum fits = absurd fits
+claim_of_within (claims.Bound bound) (claims.Cost claimed) shown sum fits = absurd fits
+claim_of_within (claims.Bound bound) (claims.Bound claimed) shown sum fits = absurd fits
+claim_of_within (claims.Bound bound) claims.Impossible shown sum fits = absurd fits
+claim_of_within claims.Impossible (claims.Cost claimed) shown sum fits = absurd fits
+claim_of_within claims.Impossible (claims.Bound claimed) shown sum fits = absurd fits
+claim_of_within claims.Impossible claims.Impossible shown sum fits = absurd fits
+
 claim_of_impossible : (claimed : Claim) → 105 ≡ mark claimed → claimed ≡ claims.Impossible
 claim_of_impossible (claims.Cost claimed) same = let differ : 105 ≡ 99 = same in absurd (omega (arith, differ))
 claim_of_impossible (claims.Bound claimed) same = let differ : 105 ≡ 98 = same in absurd (omega (arith, differ))
 claim_of_impossible claims.Impossible same = refl
-
--- the kind of claim of a good answer
-mark_of_cost : (problem : Instance) (paths : List (List ℕ)) (claim : Claim) → IsGoodFor problem (answers.Found paths) claim → 99 ≡ mark claim
-mark_of_cost problem paths (claims.Cost cost) is = refl
-mark_of_cost problem paths (claims.Bound bound) is = absurd is
-mark_of_cost problem paths claims.Impossible is = absurd is
-
-mark_of_bound : (problem : Instance) (cause : Cause) (bound : ℕ) (claim : Claim) → IsGoodFor problem (answers.Bounded cause bound) claim → 98 ≡ mark claim
-mark_of_bound problem cause bound (claims.Cost cost) is = absurd is
-mark_of_bound problem cause bound (claims.Bound says) is = refl
-mark_of_bound problem cause bound claims.Impossible is = absurd is
-
-mark_of_impossible : (problem : Instance) (claim : Claim) → IsGoodFor problem answers.Impossible claim → 105 ≡ mark claim
-mark_of_impossible problem (claims.Cost cost) is = absurd is
-mark_of_impossible problem (claims.Bound bound) is = absurd is
-mark_of_impossible problem claims.Impossible is = refl
 
 module _ (problem : Instance) (plan cert : List ℕ) where
   prints_optimal : (cost : ℕ) (says : PlanAnswer) → SpellsPlan problem.grid plan Two (length problem.agents) says → SpellsClaim Cbsh problem (claims.Cost cost) cert → IsTrueOf problem says (verdicts.Optimal cost) → AreAccepted problem plan cert (verdicts.Optimal cost) → PrintsOptimal Cbsh problem cost plan cert
@@ -130,7 +125,13 @@ module _ (problem : Instance) (plan cert : List ℕ) where
     accepted = accepted;
   }
 
-module _ (problem : Instance) (law : SpellsOnePlan) (is_grid : IsGridMap problem.grid) (answer : PlanAnswer) (claim : Claim) (written : List Part) (plan cert : List ℕ) (verdict : Verdict) (in_range : IsBoundInRange answer) (good_claim : IsGoodFor problem answer claim)
+  prints_within : (bound cost : ℕ) (says : PlanAnswer) → SpellsPlan problem.grid plan Two (length problem.agents) says → SpellsClaim Cbsh problem (claims.Bound bound) cert → IsTrueOf problem says (verdicts.Within bound cost) → AreAccepted problem plan cert (verdicts.Within bound cost) → PrintsWithin Cbsh problem bound cost plan cert
+  prints_within bound cost (answers.Found paths) spelled certified is_true accepted = record { second = refl; paths = paths; spelled = spelled; certified = certified; valid = is_true.0; sum = is_true.1; holds = is_true.2; below = is_true.3; accepted = accepted }
+  prints_within bound cost answers.Impossible spelled certified is_true accepted = absurd is_true
+  prints_within bound cost (answers.Bounded cause says) spelled certified is_true accepted = absurd is_true
+  prints_within bound cost (answers.Limit cause) spelled certified is_true accepted = absurd is_true
+
+module _ (problem : Instance) (law : SpellsOnePlan) (is_grid : IsGridMap problem.grid) (answer : PlanAnswer) (claim : Claim) (written : List Part) (plan cert : List ℕ) (verdict : Verdict) (in_range : IsBoundInRange answer)
     (plan_is : plan ≡ plan_text problem.grid.width (record { version = Two; agents = length problem.agents; answer = answer }))
     (cert_is : cert ≡ certificate_text problem.grid.width (length problem.agents) claim written)
     (truth : IsTrueText problem plan verdict) (accepted : AreAccepted problem plan cert verdict) where
@@ -155,9 +156,6 @@ module _ (problem : Instance) (law : SpellsOnePlan) (is_grid : IsGridMap problem
   fits : (given : Verdict) → verdict ≡ given → IsVerdictOn accepted.answer accepted.claimed given
   fits given is = subst (IsVerdictOn accepted.answer accepted.claimed) is accepted.fits
 
-  good_of : (given : PlanAnswer) → answer ≡ given → IsGoodFor problem given claim
-  good_of given is = subst (λ (a : PlanAnswer). IsGoodFor problem a claim) is good_claim
-
   true_of : (given : Verdict) → verdict ≡ given → IsTrueOf problem truth.says given
   true_of given is = subst (IsTrueOf problem truth.says) is truth.is_true
 
@@ -171,18 +169,20 @@ module _ (problem : Instance) (law : SpellsOnePlan) (is_grid : IsGridMap problem
       let text_is = plan_is ∙ ap (λ (a : PlanAnswer). plan_text problem.grid.width (record { version = Two; agents = length problem.agents; answer = a })) is in
       ap (λ (t : PlanText). t.answer) (law problem.grid plan _ _ is_grid spelled.in_range own spelled.spelled text_is)
 
-  pub prints : (kind : Kind) → IsKindOf verdict answer kind → Prints Cbsh problem kind plan cert
-  prints (Found cost) (is, paths, answer_is) =
-      let same = mark_of_cost problem paths claim (good_of _ answer_is) ∙ marked in
+  pub prints : (kind : Kind) → IsKindOf verdict answer claim kind → Prints Cbsh problem kind plan cert
+  prints (Found cost) (is, written, claim_is) =
+      let same : 99 ≡ mark accepted.claimed = ap mark (sym claim_is) ∙ marked in
       prints_optimal problem plan cert cost truth.says spelled (certified _ (claim_of_cost accepted.answer accepted.claimed cost (fits _ is) same)) (true_of _ is) (accepted_with _ is)
-  prints Impossible (is, answer_is) =
-      let same = mark_of_impossible problem claim (good_of _ answer_is) ∙ marked in
+  prints Impossible (is, answer_is, claim_is) =
+      let same : 105 ≡ mark accepted.claimed = ap mark (sym claim_is) ∙ marked in
       prints_impossible problem plan cert truth.says spelled (certified _ (claim_of_impossible accepted.claimed same)) (true_of _ is) (accepted_with _ is)
-  prints (Limit cause bound) (is, says, answer_is) =
-      let same = says_is cause says answer_is in
-      let kind = mark_of_bound problem cause says claim (good_of _ answer_is) ∙ marked in
-      prints_limit problem plan cert cause bound says
+  prints (Limit cause bound) (is, answer_is, claim_is) =
+      let same = says_is cause bound answer_is in
+      let kind : 98 ≡ mark accepted.claimed = ap mark (sym claim_is) ∙ marked in
+      prints_limit problem plan cert cause bound bound
       (subst (SpellsPlan problem.grid plan Two (length problem.agents)) same spelled)
       (certified _ (claim_of_bound accepted.answer accepted.claimed bound (fits _ is) kind))
       (subst (λ (a : PlanAnswer). IsTrueOf problem a (verdicts.Bound bound)) same (true_of _ is))
       (accepted_with _ is)
+  prints (Within bound cost) (is, written, claim_is) =
+      prints_within problem plan cert bound cost truth.says spelled (certified _ (claim_of_within accepted.answer accepted.claimed bound cost (fits _ is))) (true_of _ is) (accepted_with _ is)

@@ -5,7 +5,7 @@ use Rattle.mapf_app.specs.Solved.{Prints}
 use Rattle.mapf_app.specs.declared.answer_writer.Answered.{Answered}
 use Rattle.mapf_app.specs.declared.fault.Fault.{Fault}
 use Rattle.mapf_app.specs.declared.kind.Kind.{Kind}
-use Rattle.mapf_app.specs.declared.kind.Kind.TheVariants.{Found, Impossible, Limit}
+use Rattle.mapf_app.specs.declared.kind.Kind.TheVariants.{Found, Impossible, Limit, Within}
 use Rattle.mapf_checker.specs.declared.fault.CheckFault.{CheckFault}
 use Rattle.mapf_model.specs.Plan.{Instance}
 use Rattle.mapf_model.specs.declared.cause.Cause.TheVariants.{Splits, Ticks}
@@ -38,3 +38,4 @@ IsLimitedBy limit (Found cost) = ⊤
 IsLimitedBy limit Impossible = ⊤
 IsLimitedBy limit (Limit (Splits splits) bound) = splits ≡ limit
 IsLimitedBy limit (Limit Ticks bound) = ⊤
+IsLimitedBy limit (Within bound cost) = ⊤

@@ -5,7 +5,7 @@ use Rattle.mapf_app.specs.Problems.{SpellsProblem}
 use Rattle.mapf_app.specs.declared.checked.Unaccepted.{Unaccepted}
 use Rattle.mapf_app.specs.declared.checked.Unaccepted.TheVariants as unaccepted
 use Rattle.mapf_app.specs.declared.kind.Kind.{Kind}
-use Rattle.mapf_app.specs.declared.kind.Kind.TheVariants.{Found, Impossible, Limit}
+use Rattle.mapf_app.specs.declared.kind.Kind.TheVariants.{Found, Impossible, Limit, Within}
 use Rattle.mapf_certificate.specs.Plans.{IsCauseInRange}
 use Rattle.mapf_certificate.specs.declared.cert.CertFault.TheVariants as certs
 use Rattle.mapf_certificate.specs.declared.plan_text.PlanAnswer.{PlanAnswer}
@@ -22,6 +22,7 @@ use Rattle.mapf_lemma_texts.specs.declared.cert_writer.WriteFault.TheVariants as
 use Rattle.mapf_model.specs.Limits.{greatest_sum}
 use Rattle.mapf_model.specs.Plan.{Instance}
 use Rattle.mapf_model.specs.declared.item.Claim.{Claim}
+use Rattle.mapf_model.specs.declared.item.Claim.TheVariants as claims
 
 -- a text has the defect that the refusal names, for the problem that the map and the scenario spell
 pub record IsRefusalOf (map scen plan cert : Option (List ℕ)) (count : ℕ) (refusal : CheckFault) : Type 0 where
@@ -43,13 +44,17 @@ IsBoundInRange answers.Impossible = ⊤
 IsBoundInRange (answers.Limit cause) = ⊥
 IsBoundInRange (answers.Bounded cause bound) = IsCauseInRange cause × (bound ≤ greatest_sum)
 
--- the verdict and the plan text's answer are those of this answer of a run
-abbrev pub IsKindOf : Verdict → PlanAnswer → Kind → Type 0
-IsKindOf verdict answer (Found cost) =
-    (verdict ≡ verdicts.Optimal cost) × (plan : List (List ℕ)) × (answer ≡ answers.Found plan)
-IsKindOf verdict answer Impossible = (verdict ≡ verdicts.Impossible) × (answer ≡ answers.Impossible)
-IsKindOf verdict answer (Limit cause bound) =
-    (verdict ≡ verdicts.Bound bound) × (says : ℕ) × (answer ≡ answers.Bounded cause says)
+-- the verdict, the plan text's answer and the certificate's claim are those of this answer of a run, with the same
+-- numbers
+abbrev pub IsKindOf : Verdict → PlanAnswer → Claim → Kind → Type 0
+IsKindOf verdict answer claim (Found cost) = (verdict ≡ verdicts.Optimal cost)
+    × ((plan : List (List ℕ)) × (answer ≡ answers.Found plan)) × (claim ≡ claims.Cost cost)
+IsKindOf verdict answer claim Impossible =
+    (verdict ≡ verdicts.Impossible) × (answer ≡ answers.Impossible) × (claim ≡ claims.Impossible)
+IsKindOf verdict answer claim (Limit cause bound) =
+    (verdict ≡ verdicts.Bound bound) × (answer ≡ answers.Bounded cause bound) × (claim ≡ claims.Bound bound)
+IsKindOf verdict answer claim (Within bound cost) = (verdict ≡ verdicts.Within bound cost)
+    × ((plan : List (List ℕ)) × (answer ≡ answers.Found plan)) × (claim ≡ claims.Bound bound)
 
 -- why the check didn't accept an answer: it refused it, or memory ran out, which is no refusal
 abbrev pub of_check : CheckFault → Unaccepted

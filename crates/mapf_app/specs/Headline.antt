@@ -1,19 +1,22 @@
--- For every map text, scenario text, number of agents and limit that the readers accept, a printed plan is valid and no
--- valid plan has a smaller sum of costs; 'impossible' is printed only where no valid plan exists; the checker accepts
--- the certificate printed with either; and whatever the checker accepts as optimal or as impossible truly is so,
--- whoever wrote it.
+-- For every map text, scenario text, number of agents and limit that the readers accept, a plan printed with `cost C`
+-- is valid and no valid plan has a smaller sum of costs; 'impossible' is printed only where no valid plan exists; the
+-- checker accepts the certificate printed with either; and whatever the checker accepts as optimal or as impossible
+-- truly is so, whoever wrote it.
+--
+-- Where `within B C` is printed, the plan is valid with the sum of costs C, B is below C, no valid plan has a sum of
+-- costs below B, and the checker accepts both texts with the same verdict. Where it is the verdict, whoever wrote the
+-- texts, the plan is valid with the sum of costs C, B is below C, and no valid plan has a sum of costs below B.
 --
 -- Where a bound is printed or accepted, no valid plan has a smaller sum of costs, whoever wrote the texts; and the
 -- checker accepts the certificate printed with a bound.
 --
--- Beside a valid plan with the sum of costs C, a certificate of version 3 may also show a bound B below C. The verdict
--- is then `within B C`, and no valid plan has a sum of costs below B. A certificate of version 3 is accepted exactly if
--- its bytes spell one that shows its claim, and the claim fits the answer of the plan text.
+-- Beside a plan text with a valid plan, `impossible` or a bound, a certificate of version 3 is accepted exactly if its
+-- bytes spell one that shows its claim, and the claim fits the answer of the plan text.
 --
 -- Devices of memory report their bytes to contracts. Opaque ones, such as files, don't.
 use Rattle.std.specs.Prelude.{◌≡◌, ℕ, List, Option, Some, IfSome, IsSome, length}
 use Rattle.mapf_app.specs.declared.kind.Kind.{Kind}
-use Rattle.mapf_app.specs.declared.kind.Kind.TheVariants.{Found, Impossible, Limit}
+use Rattle.mapf_app.specs.declared.kind.Kind.TheVariants.{Found, Impossible, Limit, Within}
 use Rattle.mapf_app.specs.Problems.{IsPosed, SpellsProblem}
 use Rattle.mapf_app.specs.Solved.{Prints}
 use Rattle.mapf_certificate.specs.Plans.{SpellsPlan}
@@ -26,9 +29,9 @@ use Rattle.mapf_model.specs.Plan.{Instance}
 use Rattle.mapf_words.specs.declared.job.Search.{Search}
 
 -- what is printed for the problem that the map and the scenario spell: an optimal plan, or 'impossible' if no plan is
--- valid, or a bound such that no valid plan has a smaller sum of costs, beside the cause that the text names
--- (Policy.antt says that it is justified); each with a certificate with which both texts are accepted, of the version
--- in which the search writes whose answer it is
+-- valid, or a bound such that no valid plan has a smaller sum of costs, beside a valid plan of a greater sum or beside
+-- the cause that the text names (of plain search Policy.antt says that it is justified); each with a certificate with
+-- which both texts are accepted, of the version in which the search writes whose answer it is
 pub record PrintsTruly (map scen : Option (List ℕ)) (count : ℕ) (search : Search) (kind : Kind)
     (plan_bytes cert_bytes : List ℕ) : Type 0 where
   pub problem : Instance
@@ -69,6 +72,7 @@ abbrev pub IsVerdictFor : Kind → Verdict → Type 0
 IsVerdictFor (Found cost) verdict = verdict ≡ verdicts.Optimal cost
 IsVerdictFor Impossible verdict = verdict ≡ verdicts.Impossible
 IsVerdictFor (Limit cause bound) verdict = verdict ≡ verdicts.Bound bound
+IsVerdictFor (Within bound cost) verdict = verdict ≡ verdicts.Within bound cost
 
 -- what is printed has to be accepted, by whoever checks it for the same map, scenario and number of agents
 abbrev pub PrintedIsDue : Type 0

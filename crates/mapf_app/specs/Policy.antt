@@ -2,7 +2,7 @@
 -- first; how ties of conflicts and of paths are broken, the blocks and the causes are own)
 use Rattle.std.specs.Prelude.{ℕ, List, Option, length}
 use Rattle.mapf_app.specs.declared.kind.Kind.{Kind}
-use Rattle.mapf_app.specs.declared.kind.Kind.TheVariants.{Found, Impossible, Limit}
+use Rattle.mapf_app.specs.declared.kind.Kind.TheVariants.{Found, Impossible, Limit, Within}
 use Rattle.mapf_app.specs.Headline.{PrintsTruly}
 use Rattle.mapf_app.specs.Solved.{Prints, plan_bytes, cert_bytes}
 use Rattle.mapf_app.specs.declared.solved.Solved.{Solved}
@@ -26,7 +26,7 @@ pub record SpellsChosenTree (problem : Instance) (limit : ℕ) (claim : Claim) (
 
 -- the certificate has a tree as the search promises; a plan's paths are the first of the cheapest ones at a leaf; the
 -- tree of a limit justifies stopping for its cause, its bound is the least sum of cheapest paths at any terminal node,
--- and it shows no greater one
+-- and it shows no greater one; plain search never answers with a plan that it doesn't show optimal
 abbrev pub FollowsPolicy : Instance → ℕ → Kind → List ℕ → List ℕ → Type 0
 FollowsPolicy problem limit (Found cost) plan cert =
     (searched : SpellsChosenTree problem limit (claims.Cost cost) cert) × (paths : List (List ℕ))
@@ -37,6 +37,7 @@ FollowsPolicy problem limit Impossible plan cert =
 FollowsPolicy problem limit (Limit cause bound) plan cert =
     (searched : SpellsChosenTree problem limit (claims.Bound bound) cert)
     × IsLeastSum problem bound searched.tree × MayStop problem limit cause searched.tree
+FollowsPolicy problem limit (Within bound cost) plan cert = ⊥
 
 -- the two texts of a solved problem follow the search's policy
 abbrev pub IsSolvedByPolicy : Instance → ℕ → Solved → Type 0

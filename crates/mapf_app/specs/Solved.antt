@@ -1,8 +1,8 @@
 -- What a run that solves a problem prints, by the search whose answer it is.
-use Rattle.std.specs.Prelude.{◌≡◌, ℕ, List, length}
+use Rattle.std.specs.Prelude.{◌≡◌, ◌<◌, ℕ, List, length}
 use Rattle.mapf_app.specs.declared.kind.Kind.{Kind}
 use Rattle.mapf_app.specs.declared.solved.Solved.{Solved}
-use Rattle.mapf_app.specs.declared.kind.Kind.TheVariants.{Found, Impossible, Limit}
+use Rattle.mapf_app.specs.declared.kind.Kind.TheVariants.{Found, Impossible, Limit, Within}
 use Rattle.mapf_certificate.specs.Certificates.{SpellsCert, cert_text}
 use Rattle.mapf_certificate.specs.Plans.{SpellsPlan, plan_text}
 use Rattle.mapf_certificate.specs.declared.version.Version.TheVariants.{Two}
@@ -17,7 +17,7 @@ use Rattle.mapf_lemmas.specs.Prices.{PriceList}
 use Rattle.mapf_model.specs.declared.cause.Cause.{Cause}
 use Rattle.mapf_model.specs.declared.item.Claim.{Claim}
 use Rattle.mapf_model.specs.declared.item.Claim.TheVariants as claims
-use Rattle.mapf_model.specs.Plan.{Instance, IsOptimal, IsLowerBound, IsImpossible}
+use Rattle.mapf_model.specs.Plan.{Instance, IsValid, IsSumOfCosts, IsOptimal, IsLowerBound, IsImpossible}
 use Rattle.mapf_model.specs.Tree.{ConstraintTree}
 use Rattle.mapf_words.specs.declared.job.Search.{Search}
 use Rattle.mapf_words.specs.declared.job.Search.TheVariants.{Cbs, Cbsh}
@@ -55,11 +55,26 @@ pub record PrintsLimit (search : Search) (problem : Instance) (cause : Cause) (b
   pub holds : IsLowerBound problem bound
   pub accepted : AreAccepted problem plan cert (verdicts.Bound bound)
 
+-- the first text spells a valid plan with this sum, and the second a certificate of version 3 that claims the bound;
+-- the bound is below the sum, no valid plan has a sum below the bound, and both texts are accepted. Only the second
+-- search answers so
+pub record PrintsWithin (search : Search) (problem : Instance) (bound cost : ℕ) (plan cert : List ℕ) : Type 0 where
+  pub second : search ≡ Cbsh
+  pub paths : List (List ℕ)
+  pub spelled : SpellsPlan problem.grid plan Two (length problem.agents) (answers.Found paths)
+  pub certified : SpellsClaim Cbsh problem (claims.Bound bound) cert
+  pub valid : IsValid problem paths
+  pub sum : IsSumOfCosts problem.agents paths cost
+  pub holds : IsLowerBound problem bound
+  pub below : bound < cost
+  pub accepted : AreAccepted problem plan cert (verdicts.Within bound cost)
+
 -- what the two texts of an answer of this search are, by the kind of answer
 abbrev pub Prints : Search → Instance → Kind → List ℕ → List ℕ → Type 0
 Prints search problem (Found cost) plan cert = PrintsOptimal search problem cost plan cert
 Prints search problem Impossible plan cert = PrintsImpossible search problem plan cert
 Prints search problem (Limit cause bound) plan cert = PrintsLimit search problem cause bound plan cert
+Prints search problem (Within bound cost) plan cert = PrintsWithin search problem bound cost plan cert
 
 -- an answer and its two texts are exactly this kind of answer and these texts
 abbrev pub AreExactTexts : Kind → List ℕ → List ℕ → Kind → List ℕ → List ℕ → Type 0

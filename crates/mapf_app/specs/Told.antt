@@ -7,7 +7,7 @@ use Rattle.mapf_app.specs.FaultLines.{refusal_line}
 use Rattle.mapf_app.specs.declared.fault.Fault.{Fault}
 use Rattle.mapf_app.specs.declared.fault.Fault.TheVariants.{F1, F2, F3, F4, F5, F6, Refused}
 use Rattle.mapf_app.specs.declared.kind.Kind.{Kind}
-use Rattle.mapf_app.specs.declared.kind.Kind.TheVariants.{Found, Impossible, Limit}
+use Rattle.mapf_app.specs.declared.kind.Kind.TheVariants.{Found, Impossible, Limit, Within}
 use Rattle.mapf_app.specs.declared.line.Line.{Line}
 use Rattle.mapf_checker.specs.declared.fault.CheckFault.{CheckFault}
 use Rattle.mapf_checker.specs.declared.fault.Verdict.{Verdict}
@@ -55,19 +55,21 @@ abbrev pub Gets : Bool → Option (List ℕ) → Option (List ℕ) → List ℕ 
 Gets true old new text = (n : ℕ) × Appends old new (take n text)
 Gets false old new text = Appends old new text
 
--- `cost C`, `impossible`, `limit S bound B` or `limit ticks bound B`
+-- `cost C`, `impossible`, `limit S bound B`, `limit ticks bound B` or `within B C`
 abbrev pub kind_line : Kind → List ℕ
 kind_line (Found cost) = codes "cost " ++ (decimal cost ++ (10 ∷ []))
 kind_line Impossible = codes "impossible\n"
 kind_line (Limit (Splits splits) bound) =
     codes "limit " ++ (decimal splits ++ (codes " bound " ++ (decimal bound ++ (10 ∷ []))))
 kind_line (Limit Ticks bound) = codes "limit ticks bound " ++ (decimal bound ++ (10 ∷ []))
+kind_line (Within bound cost) = codes "within " ++ (decimal bound ++ (codes " " ++ (decimal cost ++ (10 ∷ []))))
 
--- 0 solved, 3 impossible, 4 a limit was reached
+-- 0 solved, 3 impossible, 4 a bound alone was shown, with a plan or without
 abbrev pub kind_status : Kind → ℕ
 kind_status (Found cost) = 0
 kind_status Impossible = 3
 kind_status (Limit cause bound) = 4
+kind_status (Within bound cost) = 4
 
 -- `optimal C`, `within B C`, `bound B` or `impossible`
 abbrev pub verdict_line : Verdict → List ℕ

@@ -10,7 +10,7 @@ ghost use Rattle.mapf_app.specs.Solved.{AreExactTexts, plan_bytes, cert_bytes};
 ghost use Rattle.mapf_certificate.specs.Plans.{IsFew};
 ghost use Rattle.mapf_model.specs.Limits.{most_splits};
 
-use crate::checked::{Checked, Unaccepted, search_checked};
+use crate::checked::{Checked, Effort, Unaccepted, search_checked};
 use crate::fault::{Fault, Output};
 use crate::kind::Kind;
 use crate::solved::{Solved, solve_problem};
@@ -126,26 +126,26 @@ pub fn with_refusal(
 pub fn write_by_cbsh<W: Watcher, P: Sink, C: Sink>(
     alloc: Global,
     problem: &Problem,
-    limit: u32,
+    effort: Effort,
     watcher: &mut W,
     plan_sink: &mut P,
     cert_sink: &mut C,
 ) -> Result<Answered, Fault>
     requires works { (P.has_failed plan_sink.old ≡ false) × (C.has_failed cert_sink.old ≡ false) }
-    requires few { limit ≤ most_splits }
-    ensures texts { WritesTexts result (IsCheckedAnswer problem.now limit)
+    requires few { effort.limit ≤ most_splits }
+    ensures texts { WritesTexts result (IsCheckedAnswer problem.now effort.limit)
         (P.contents plan_sink.old) (P.contents plan_sink.new) (C.contents cert_sink.old) (C.contents cert_sink.new) }
     ensures sinks { ReportsSinks result (P.has_failed plan_sink.new) (C.has_failed cert_sink.new)
         (plan_sink.new ≡ plan_sink.old) (cert_sink.new ≡ cert_sink.old) }
-    ensures limit { IfOk result (λ answer. IsLimitedBy limit answer.kind) }
+    ensures limit { IfOk result (λ answer. IsLimitedBy effort.limit answer.kind) }
     ensures refused { IfOk result (λ answer. IfSome answer.refused HasNoCheckMemory) }
     ensures fault { IfErr result IsOfWriting }
 {
-    match search_checked(alloc, problem, limit, watcher) {
+    match search_checked(alloc, problem, effort, watcher) {
         Ok(checked) => with_refusal(write_checked(&checked, plan_sink, cert_sink), None),
         Err(Unaccepted::Memory) => Err(Fault::F6),
         Err(Unaccepted::Refused(refusal)) => with_refusal(
-            write_plain(alloc, problem, limit, watcher, plan_sink, cert_sink),
+            write_plain(alloc, problem, effort.limit, watcher, plan_sink, cert_sink),
             Some(refusal),
         ),
     }

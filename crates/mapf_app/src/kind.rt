@@ -11,4 +11,7 @@ pub enum Kind {
     Impossible,
     /// The search reached this limit, and no valid plan has a sum of costs below this bound, in ticks.
     Limit { cause: Cause, bound: u64 },
+    /// The second search reached a limit with a valid plan of this sum of costs, and no valid plan has one below the
+    /// bound, which is smaller, both in ticks.
+    Within { bound: u64, cost: u64 },
 }

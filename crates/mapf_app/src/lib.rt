@@ -11,6 +11,7 @@ mod input;
 mod kind;
 pub mod laws;
 mod line;
+mod plan_in_hand;
 mod planned;
 mod play;
 mod solve;

@@ -70,7 +70,8 @@ impl Line {
         }
     }
 
-    fn with_two(self, first: u64, second: u64) -> Line
+    /// Returns the line with these two numbers.
+    pub fn with_two(self, first: u64, second: u64) -> Line
         ensures { result ≡ record self { numbers = (Some first, Some second, None) } }
     {
         Line {

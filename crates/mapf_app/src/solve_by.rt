@@ -15,6 +15,7 @@ ghost use Rattle.mapf_model.specs.Plan.{Instance};
 ghost use Rattle.mapf_words.specs.declared.job.Search.TheVariants.{Cbs};
 
 use crate::answer_writer::{Answered, with_refusal, write_by_cbsh, write_plain};
+use crate::checked::Effort;
 use crate::fault::{Fault, Input};
 use crate::input::read_problem;
 use mapf_model::{Sink, Source, Watcher};
@@ -29,6 +30,8 @@ pub struct Asked<'w, W: Watcher> {
     pub k: u32,
     /// How many splits the search may make: 0 to 100,000.
     pub limit: u32,
+    /// How many improvements of its first plan the second search tries: 0 to 1,000,000.
+    pub improvements: u32,
     /// Who is told how far the search is.
     pub watcher: &'w mut W,
 }
@@ -48,9 +51,10 @@ pub fn run_solve_by<W: Watcher, M: Source, S: Source, P: Sink, C: Sink>(
     requires works { (M.has_failed map.old ≡ false) × (S.has_failed scen.old ≡ false)
         × (P.has_failed plan_sink.old ≡ false) × (C.has_failed cert_sink.old ≡ false) }
     requires range { (1 ≤ asked.k) × (asked.k ≤ most_agents) × (asked.limit ≤ most_splits) }
-    // A printed plan is optimal, 'impossible' is printed only if no plan is valid, a bound only if no valid plan has a
-    // smaller sum of costs, and both texts are accepted for the problem that was read. The certificate is of version 2
-    // if the answer is plain search's, and else of version 3. A sink that failed got a prefix of such a text.
+    // A printed plan is optimal, or valid beside a bound; 'impossible' is printed only if no plan is valid, a bound only
+    // if no valid plan has a smaller sum of costs, and both texts are accepted for the problem that was read. The
+    // certificate is of version 2 if the answer is plain search's, and else of version 3. A sink that failed got a
+    // prefix of such a text.
     ensures printed { WritesTexts result
         (λ answer. PrintsTruly (M.remaining map.old) (S.remaining scen.old) asked.entry.k
         (answering asked.entry.search answer.refused) answer.kind)
@@ -105,7 +109,10 @@ pub fn run_solve_by<W: Watcher, M: Source, S: Source, P: Sink, C: Sink>(
         Search::Cbsh => write_by_cbsh(
             alloc,
             &problem,
-            asked.limit,
+            Effort {
+                limit: asked.limit,
+                improvements: asked.improvements,
+            },
             asked.watcher,
             plan_sink,
             cert_sink,

@@ -49,11 +49,12 @@ fn kind_line(kind: Kind) -> (Line, u8)
             cause: Cause::Ticks,
             bound,
         } => (Line::of("limit ticks").bounded(bound), LIMIT),
+        Kind::Within { bound, cost } => (Line::of("within").with_two(bound, cost), LIMIT),
     }
 }
 
 /// Prints the answer of a solving run as a line on `out`, or its error as a line on `err`. Returns the exit status: 0
-/// solved, 3 impossible, 4 a limit, 2 an error, also if the line could not be written.
+/// solved, 3 impossible, 4 a limit, also if there is a plan, 2 an error, also if the line could not be written.
 pub fn tell_solve<O: Sink, E: Sink>(answer: &Result<Kind, Fault>, out: &mut O, err: &mut E) -> u8
     requires out_works { O.has_failed out.old ≡ false }
     requires err_works { E.has_failed err.old ≡ false }

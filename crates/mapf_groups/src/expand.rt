@@ -25,6 +25,9 @@ pub enum Step {
     Ended(Ended),
 }
 
+/// How many splits the searches for groups may make at the root of the tree of all agents, also if the limit is smaller.
+const SPLITS_AT_ROOT: u32 = 300;
+
 /// The fewest agents of a tree whose nodes are visited.
 const FEWEST_VISITED: usize = 13;
 
@@ -71,11 +74,16 @@ impl<'a> Searcher<'a> {
             return Ok(Step::Ended(Ended::Exhausted));
         };
         self.tree.bound = self.tree.bound.max(bound);
-        if self.is_stopped || self.work > self.until {
+        if self.is_stopped || self.work > self.until || self.is_in_vain() {
             self.tree.push(number)?;
             return Ok(Step::Ended(Ended::AtLimit(Cause::Splits(self.limit))));
         }
         self.look_at(number, bound)
+    }
+
+    // Returns whether the tree of all agents has no cheaper plan than the one that is known.
+    fn is_in_vain(&self) -> bool {
+        self.suspended.is_empty() && self.tree.bound >= self.below
     }
 
     // Looks at an open node, which had this bound.
@@ -213,7 +221,7 @@ impl<'a> Searcher<'a> {
         if self.is_bypass(number, &right) {
             return self.bypass(number, right);
         }
-        if self.splits >= self.limit {
+        if self.splits >= self.most_splits() {
             self.is_stopped = true;
             self.tree.push(number)?;
             return Ok(Step::Ended(Ended::AtLimit(Cause::Splits(self.limit))));
@@ -224,6 +232,14 @@ impl<'a> Searcher<'a> {
         self.add(right)?;
         self.tree.split(number, sides.kind, first);
         Ok(Step::Split)
+    }
+
+    // Returns how many splits there may be by now.
+    fn most_splits(&self) -> u32 {
+        match self.suspended.first() {
+            Some(outermost) if outermost.is_at_root() => self.limit.max(SPLITS_AT_ROOT),
+            _ => self.limit,
+        }
     }
 
     // Returns whether the paths of a child can take the place of a node's: they cost the same and have fewer conflicts.

@@ -63,6 +63,11 @@ impl Suspended {
     pub fn tree(&self) -> &SearchTree {
         &self.tree
     }
+
+    /// Returns whether the node is the root of its tree.
+    pub fn is_at_root(&self) -> bool {
+        self.visit.number == 0
+    }
 }
 
 impl<'a> Searcher<'a> {

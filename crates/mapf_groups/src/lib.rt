@@ -39,4 +39,4 @@ mod split;
 mod visit;
 
 pub use outcome::Outcome;
-pub use solver::{search, search_watched};
+pub use solver::{search, search_below};

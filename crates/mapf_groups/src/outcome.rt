@@ -14,7 +14,8 @@ pub enum Outcome {
     Impossible {
         parts: Vec<Part>,
     },
-    /// The search stopped at its limit. The parts show that no valid plan has a sum of costs below the bound, in ticks.
+    /// The search stopped at its limit, or where no plan below the given sum is left. The parts show that no valid plan
+    /// has a sum of costs below the bound, in ticks.
     Limit {
         cause: Cause,
         bound: u64,

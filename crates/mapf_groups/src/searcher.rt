@@ -28,6 +28,8 @@ pub struct Searcher<'a> {
     /// How many nodes were split, and how many may be.
     pub splits: u32,
     pub limit: u32,
+    /// What the plan that is searched for has to cost less than.
+    pub below: u64,
     /// How many children were made, in all trees.
     pub work: u64,
     /// How much of it went to groups of any size below the root of the tree of all agents.
@@ -63,6 +65,7 @@ impl<'a> Searcher<'a> {
             facts: Vec::new(alloc),
             splits: 0,
             limit,
+            below: u64::MAX,
             work: 0,
             wide_work: 0,
             until: u64::MAX,

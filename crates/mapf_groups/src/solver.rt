@@ -15,14 +15,17 @@ use std::alloc::Global;
 pub fn search(alloc: Global, problem: &Problem, limit: u32) -> Result<Outcome, OutOfMemory>
     requires { limit ≤ most_splits }
 {
-    search_watched(alloc, problem, limit, &mut Unwatched)
+    search_below(alloc, problem, limit, u64::MAX, &mut Unwatched)
 }
 
-/// Searches as `search` does, and tells the watcher how far it is.
-pub fn search_watched<W: Watcher>(
+/// Searches as `search` does, but only for a plan with a sum of costs below this one, in ticks, and tells the watcher how
+/// far it is. Where no such plan is left, the search ends as at a limit, with this sum as the bound: a plan that has it
+/// is optimal.
+pub fn search_below<W: Watcher>(
     alloc: Global,
     problem: &Problem,
     limit: u32,
+    below: u64,
     watcher: &mut W,
 ) -> Result<Outcome, OutOfMemory>
     requires { limit ≤ most_splits }
@@ -32,6 +35,7 @@ pub fn search_watched<W: Watcher>(
     }
     let tree = tree_of_all(alloc, problem)?;
     let mut searcher = Searcher::of(alloc, problem, tree, limit)?;
+    searcher.below = below;
     searcher.plant()?;
     if let Some(parts) = searcher.blocking()? {
         return Ok(Outcome::Impossible { parts });
@@ -53,7 +57,7 @@ fn tree_of_all(alloc: Global, problem: &Problem) -> Result<SearchTree, OutOfMemo
 
 // Returns the outcome of a search that has ended.
 fn end(searcher: &mut Searcher, ended: Ended) -> Result<Outcome, OutOfMemory> {
-    let bound = searcher.tree.bound;
+    let bound = searcher.tree.bound.min(searcher.below);
     match ended {
         Ended::Plan(paths) => match plan_of(searcher, &paths)? {
             Some((plan, cost)) => Ok(Outcome::Found {

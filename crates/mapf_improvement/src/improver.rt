@@ -12,9 +12,6 @@ use mapf_model::{OutOfMemory, Path, Plan, Problem};
 use std::alloc::Global;
 use std::marker::Model;
 
-/// How many improvements for each agent are a good number to try. On crowded maps more gain more.
-pub const IMPROVEMENTS_FOR_EACH_AGENT: u64 = 50;
-
 /// A valid plan that gets cheaper. To contracts it is the problem that the plan is for.
 #[derive(Drop)]
 pub struct Improver<'a> {

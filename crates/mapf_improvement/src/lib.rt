@@ -33,4 +33,4 @@ mod path_search;
 mod replanner;
 mod stays;
 
-pub use improver::{IMPROVEMENTS_FOR_EACH_AGENT, Improver};
+pub use improver::Improver;

@@ -128,11 +128,13 @@ const ROWS: &[Row] = &[
     },
 ];
 
-fn verdict_of(kind: Kind) -> Verdict {
+/// The verdict that is due on what was written with this answer.
+pub fn verdict_of(kind: Kind) -> Verdict {
     match kind {
         Kind::Found(cost) => Verdict::Optimal(cost),
         Kind::Impossible => Verdict::Impossible,
         Kind::Limit { bound, .. } => Verdict::Bound(bound),
+        Kind::Within { bound, cost } => Verdict::Within { bound, cost },
     }
 }
 

@@ -1,8 +1,8 @@
 //! What is written by a search of the caller's choice.
 
 use crate::runs::{assert_text, assert_verdict, checked, solved};
-use mapf_app::{Answered, Fault, Kind, Search, Verdict};
-use mapf_model::Cause;
+use crate::solving::verdict_of;
+use mapf_app::{Answered, Fault, Kind, Search};
 use mapf_rows::Given;
 use mapf_rows::problems::{
     AT_REST, CORRIDOR, CROSSING, EXCHANGE, NICHE, ROTATION, SHARED_GOAL, SHARED_START, WALL,
@@ -27,9 +27,9 @@ const PROBLEMS: &[(Given, u32)] = &[
 // Problems that plain search doesn't solve without a split.
 const STOPPED: &[Given] = &[CROSSING, NICHE, SHARED_START, EXCHANGE];
 
-// Problems of two agents that the second search doesn't solve without a split either, and the least sum of their costs:
-// their joint states show that they cost as much.
-const BOUNDED: &[(Given, u64)] = &[(CROSSING, 5), (NICHE, 4)];
+// Problems of two agents, and the least sum of their costs: their joint states show it without a split, and the first
+// plan has it.
+const SHOWN: &[(Given, u64)] = &[(CROSSING, 5), (NICHE, 4)];
 
 fn solved_by(alloc: Global, given: &Given, search: Search, limit: u32) -> Result<SolvedBy, Fail> {
     if given.k < 1 || 200 < given.k || 100_000 < limit {
@@ -51,13 +51,8 @@ fn assert_answered(
         refused: None,
     });
     assert_eq!(rt; run.answer, expected);
-    let verdict = match kind {
-        Kind::Found(cost) => Verdict::Optimal(cost),
-        Kind::Impossible => Verdict::Impossible,
-        Kind::Limit { bound, .. } => Verdict::Bound(bound),
-    };
     let given_verdict = checked(alloc, given, run.plan.bytes(), run.cert.bytes())?;
-    assert_verdict(rt, given_verdict, Ok(verdict));
+    assert_verdict(rt, given_verdict, Ok(verdict_of(kind)));
     Ok(())
 }
 
@@ -107,14 +102,10 @@ fn answers_the_same_by_the_second_search(rt: HostRuntime) -> Result<(), Fail> {
 }
 
 #[test]
-fn tells_the_bound_of_the_root(rt: HostRuntime) -> Result<(), Fail> {
-    for (given, bound) in BOUNDED {
+fn shows_a_first_plan_optimal_without_a_split(rt: HostRuntime) -> Result<(), Fail> {
+    for (given, cost) in SHOWN {
         let run = solved_by(rt.alloc(), given, Search::Cbsh, 0)?;
-        let kind = Kind::Limit {
-            cause: Cause::Splits(0),
-            bound: *bound,
-        };
-        assert_answered(&rt, rt.alloc(), given, &run, kind)?;
+        assert_answered(&rt, rt.alloc(), given, &run, Kind::Found(*cost))?;
     }
     Ok(())
 }

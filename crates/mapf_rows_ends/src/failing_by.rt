@@ -73,6 +73,7 @@ fn solve_into(
         search: Search::Cbsh,
         k: given.k,
         limit,
+        improvements: 10,
         watcher: &mut Unwatched,
     };
     run_solve_by(alloc, &mut map, &mut scen, asked, plan, cert)

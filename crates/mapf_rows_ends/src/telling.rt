@@ -113,6 +113,15 @@ const KINDS: &[(Kind, &str, u8)] = &[
         "limit ticks bound 0\n",
         4,
     ),
+    (
+        Kind::Within {
+            bound: 0,
+            cost: 1_999_999_800,
+        },
+        "within 0 1999999800\n",
+        4,
+    ),
+    (Kind::Within { bound: 4, cost: 5 }, "within 4 5\n", 4),
 ];
 
 #[test]

@@ -41,6 +41,9 @@ pub struct SolvedBy {
     pub cert: BytesSink,
 }
 
+// How many improvements a run by the second search tries.
+const IMPROVEMENTS: u32 = 100;
+
 pub fn solve_by(
     alloc: Global,
     given: &Given,
@@ -59,6 +62,7 @@ pub fn solve_by(
         search,
         k: given.k,
         limit,
+        improvements: IMPROVEMENTS,
         watcher: &mut Unwatched,
     };
     let answer = run_solve_by(alloc, &mut map, &mut scen, asked, &mut plan, &mut cert);

@@ -1,7 +1,7 @@
 //! Which jobs arguments ask for, which arguments are refused, and the texts of help and of the
 //! version.
 
-use mapf_words::{Job, WordsFault, job_of};
+use mapf_words::{Job, Search, WordsFault, job_of};
 use std::alloc::{AllocError, Global};
 use std::io;
 use std::process::Abort;
@@ -33,6 +33,19 @@ fn solve(alloc: Global) -> Result<Job, AllocError> {
         scen: owned(alloc, "s")?,
         k: 200,
         limit: 100_000,
+        plan: owned(alloc, "p")?,
+        cert: owned(alloc, "c")?,
+    })
+}
+
+fn solve_by_cbsh(alloc: Global, improvements: u32) -> Result<Job, AllocError> {
+    Ok(Job::SolveBy {
+        search: Search::Cbsh,
+        map: owned(alloc, "m")?,
+        scen: owned(alloc, "s")?,
+        k: 7,
+        limit: 0,
+        improvements,
         plan: owned(alloc, "p")?,
         cert: owned(alloc, "c")?,
     })
@@ -84,6 +97,29 @@ fn reads_jobs(rt: HostRuntime) -> Result<(), Fail> {
     Ok(())
 }
 
+// Without a number there are 50 improvements for each agent.
+const IMPROVEMENTS: &[(&str, u32)] = &[
+    ("mapf solve --search cbsh m s 7 0 p c", 350),
+    ("mapf solve --search cbsh --improve 0 m s 7 0 p c", 0),
+    (
+        "mapf solve m s 7 0 p c --improve=1000000 --search=cbsh",
+        1_000_000,
+    ),
+];
+
+#[test]
+fn reads_improvements(rt: HostRuntime) -> Result<(), Fail> {
+    for (text, improvements) in IMPROVEMENTS {
+        assert_job(
+            &rt,
+            rt.alloc(),
+            text,
+            solve_by_cbsh(rt.alloc(), *improvements)?,
+        )?;
+    }
+    Ok(())
+}
+
 fn print(rt: &HostRuntime, mark: &str, text: &str) -> io::Result<()> {
     println!(rt; "{mark}{text}")
 }
@@ -109,6 +145,10 @@ const REFUSED: &[&str] = &[
     "mapf solve m s x 10 p c",
     "mapf solve m s 2 100001 p c",
     "mapf solve m s 2 10 p",
+    "mapf solve --improve 5 m s 2 10 p c",
+    "mapf solve --search cbs --improve 5 m s 2 10 p c",
+    "mapf solve --search cbsh --improve 1000001 m s 2 10 p c",
+    "mapf solve --search cbsh --improve x m s 2 10 p c",
     "mapf check m s 201 p c",
     "mapf check m s 2 p c d",
     "mapf play m s 2",

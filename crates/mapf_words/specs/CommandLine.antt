@@ -8,7 +8,7 @@ use Rattle.clap.specs.declared.parser.matches.Found.{Found}
 use Rattle.clap.specs.declared.builder.value_parser.ValueParser.TheVariants.{Signed}
 use Rattle.mapf_model.specs.Limits.{most_agents, most_splits}
 use Rattle.mapf_words.specs.declared.job.Job.{Job}
-use Rattle.mapf_words.specs.Jobs.{IsJobOf}
+use Rattle.mapf_words.specs.Jobs.{IsJobOf, most_improvements}
 
 -- a required positional argument, whose value is any text
 abbrev pub file_argument : Text → Rule
@@ -24,9 +24,13 @@ abbrev pub IsCommand : App → Command → Type 0
 IsCommand app command = (app_of command ≡ app)
     × ((old new : Command) → AddsSubcommand old command new → app_of new ≡ with_subcommand (app_of old) app.top)
 
--- an option with this name and a value, any text, which has a name in the help
+-- an option with this name and a value, which is any text; the help names the value
 abbrev pub option_argument : Text → Rule
 option_argument name = record (new_rule name) { long = Some name; value_names = 1 }
+
+-- an option with this name and a value, which is a number in this range; the help names the value
+abbrev pub number_option : Text → ℕ → ℕ → Rule
+number_option name low high = record (option_argument name) { parser = Some (Signed (pos low) (pos high)) }
 
 -- a command whose first arguments are MAP, SCEN and K
 abbrev pub command_on : Text → App
@@ -34,12 +38,12 @@ command_on name =
     with_rule (with_rule (with_rule (new_app name) (file_argument (codes "MAP"))) (file_argument (codes "SCEN")))
     (number_argument (codes "K") 1 most_agents)
 
--- `solve [--search NAME] MAP SCEN K LIMIT PLAN CERT`
+-- `solve [--search NAME] [--improve N] MAP SCEN K LIMIT PLAN CERT`
 abbrev pub solve_command : App
 solve_command =
-    with_rule (with_rule (with_rule (with_rule (command_on (codes "solve"))
+    with_rule (with_rule (with_rule (with_rule (with_rule (command_on (codes "solve"))
     (number_argument (codes "LIMIT") 0 most_splits)) (file_argument (codes "PLAN"))) (file_argument (codes "CERT")))
-    (option_argument (codes "search"))
+    (option_argument (codes "search"))) (number_option (codes "improve") 0 most_improvements)
 
 -- `check MAP SCEN K PLAN CERT`
 abbrev pub check_command : App

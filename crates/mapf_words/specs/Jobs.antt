@@ -1,5 +1,5 @@
 -- What a command line asks for.
-use Rattle.std.specs.Prelude.{◌≡◌, ◌≢◌, ◌⊎◌, ◌≤◌, ⊤, ℕ, List, [], None, Some, unwrap_or, codes}
+use Rattle.std.specs.Prelude.{◌≡◌, ◌≢◌, ◌⊎◌, ◌≤◌, ◌*◌, ⊤, ℕ, List, [], None, Some, unwrap_or, codes}
 use Rattle.std.specs.String.{string_bytes}
 use Rattle.std.specs.Str.Parse.{IsNumeral, digits_value, without_leading_plus}
 use Rattle.clap.specs.Matches.{first_value, one_text}
@@ -10,11 +10,20 @@ use Rattle.mapf_words.specs.declared.job.Job.TheVariants.{Demo, Solve, SolveBy, 
 use Rattle.mapf_words.specs.declared.job.Search.{Search}
 use Rattle.mapf_words.specs.declared.job.Search.TheVariants.{Cbs, Cbsh}
 
--- 1 to 200 agents, and at most 100,000 splits
+-- the most improvements of a first plan that may be asked for
+abbrev pub most_improvements : ℕ
+most_improvements = 1000000
+
+-- how many improvements are tried for each agent if no number is asked for
+abbrev pub improvements_for_each : ℕ
+improvements_for_each = 50
+
+-- 1 to 200 agents, at most 100,000 splits, and at most 1,000,000 improvements
 abbrev pub IsInRange : Job → Type 0
 IsInRange Demo = ⊤
 IsInRange (Solve map scen k limit plan cert) = (1 ≤ k) × (k ≤ most_agents) × (limit ≤ most_splits)
-IsInRange (SolveBy search map scen k limit plan cert) = (1 ≤ k) × (k ≤ most_agents) × (limit ≤ most_splits)
+IsInRange (SolveBy search map scen k limit improvements plan cert) =
+    (1 ≤ k) × (k ≤ most_agents) × (limit ≤ most_splits) × (improvements ≤ most_improvements)
 IsInRange (Check map scen k plan cert) = (1 ≤ k) × (k ≤ most_agents)
 IsInRange (Play map scen k plan) = (1 ≤ k) × (k ≤ most_agents)
 IsInRange (Dispatch map scen k plan events) = (1 ≤ k) × (k ≤ most_agents)
@@ -34,7 +43,7 @@ abbrev pub HasOwnOutputs : Job → Type 0
 HasOwnOutputs Demo = ⊤
 HasOwnOutputs (Solve map scen k limit plan cert) =
     AreOwnOutputs (string_bytes map) (string_bytes scen) (string_bytes plan) (string_bytes cert)
-HasOwnOutputs (SolveBy search map scen k limit plan cert) =
+HasOwnOutputs (SolveBy search map scen k limit improvements plan cert) =
     AreOwnOutputs (string_bytes map) (string_bytes scen) (string_bytes plan) (string_bytes cert)
 HasOwnOutputs (Check map scen k plan cert) = ⊤
 HasOwnOutputs (Play map scen k plan) = ⊤
@@ -55,6 +64,12 @@ IsSearchOf found Cbs =
     (first_value found (codes "search") ≡ None) ⊎ (first_value found (codes "search") ≡ Some (codes "cbs"))
 IsSearchOf found Cbsh = first_value found (codes "search") ≡ Some (codes "cbsh")
 
+-- the option `--improve` gives this number of improvements; without it there are 50 for each of the k agents
+abbrev pub IsImprovementsOf : Found → ℕ → ℕ → Type 0
+IsImprovementsOf found k n =
+    ((first_value found (codes "improve") ≡ None) × (n ≡ improvements_for_each * k))
+    ⊎ IsNumberOf found (codes "improve") n
+
 -- the arguments of `solve` are these file names and numbers
 pub record IsSolveOf (command : List ℕ) (found : Found) (map scen : List ℕ) (k limit : ℕ) (plan cert : List ℕ)
     : Type 0 where
@@ -66,12 +81,14 @@ pub record IsSolveOf (command : List ℕ) (found : Found) (map scen : List ℕ) 
   pub plan_is : plan ≡ named found (codes "PLAN")
   pub cert_is : cert ≡ named found (codes "CERT")
 
--- a job of this command: its file names and its numbers are those of the arguments
+-- a job of this command: its file names and its numbers are those of the arguments; plain search takes no `--improve`
 abbrev pub IsJobOf : List ℕ → Found → Job → Type 0
 IsJobOf command found Demo = ⊥
-IsJobOf command found (Solve map scen k limit plan cert) = IsSearchOf found Cbs
+IsJobOf command found (Solve map scen k limit plan cert) =
+    IsSearchOf found Cbs × (first_value found (codes "improve") ≡ None)
     × IsSolveOf command found (string_bytes map) (string_bytes scen) k limit (string_bytes plan) (string_bytes cert)
-IsJobOf command found (SolveBy search map scen k limit plan cert) = IsSearchOf found search × (search ≢ Cbs)
+IsJobOf command found (SolveBy search map scen k limit improvements plan cert) =
+    IsSearchOf found search × (search ≢ Cbs) × IsImprovementsOf found k improvements
     × IsSolveOf command found (string_bytes map) (string_bytes scen) k limit (string_bytes plan) (string_bytes cert)
 IsJobOf command found (Check map scen k plan cert) =
     (command ≡ codes "check") × (string_bytes map ≡ named found (codes "MAP"))

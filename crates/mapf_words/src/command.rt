@@ -2,9 +2,11 @@
 ghost use Rattle.std.specs.Prelude.{◌≡◌, codes, false, IfOk};
 ghost use Rattle.clap.specs.Words.{app_of, rule_of};
 ghost use Rattle.mapf_words.specs.CommandLine.{IsCommand, check_command, dispatch_command, file_argument};
-ghost use Rattle.mapf_words.specs.CommandLine.{mapf_command, number_argument, option_argument, play_command};
-ghost use Rattle.mapf_words.specs.CommandLine.{program, solve_command};
+ghost use Rattle.mapf_words.specs.CommandLine.{mapf_command, number_argument, number_option, option_argument};
+ghost use Rattle.mapf_words.specs.CommandLine.{play_command, program, solve_command};
+ghost use Rattle.mapf_words.specs.Jobs.{most_improvements};
 
+use crate::job::MOST_IMPROVEMENTS;
 use clap::{Arg, Command, value_parser};
 use mapf_model::limits::{MOST_AGENTS, MOST_SPLITS};
 use mapf_model::{most_agents, most_splits};
@@ -43,7 +45,7 @@ Exit status:
   1  check refused the plan text or the certificate
   2  an error or a usage error, with a message on standard error
   3  solve found that no plan is valid
-  4  solve reached a limit before it had an answer
+  4  solve reached a limit: it shows a bound alone, beside a plan or without one
 
 Errors, with details in the same line: F1 the map, F2 the scenario, F3 a plan that can't be played
 or followed, or the event text, F4 a file that can't be read, F5 one that can't be written, F6 out
@@ -59,8 +61,9 @@ nothing is written. They are made or emptied before MAP and SCEN are read.
 Standard output has one line:
   cost C               the sum of the agents' costs, in ticks
   impossible           no plan is valid
-  limit S bound B      no answer after S splits; no valid plan costs less than B
-  limit ticks bound B  no answer, since the agents have a conflict too late; B as above
+  limit S bound B      no plan, with S splits allowed; no valid plan costs less than B
+  limit ticks bound B  no plan, since the agents have a conflict too late; B as above
+  within B C           by cbsh at a limit: a plan that costs C; no valid plan costs less than B
 
 Example:
   mapf solve grid.map agents.scen 5 1000 plan.txt cert.txt
@@ -148,6 +151,9 @@ const SEARCH: &str =
     "The search: cbs, which is plain conflict-based search, or cbsh, a second one, whose
 answer is checked before it is written; cbs unless told";
 
+const IMPROVE: &str =
+    "How often cbsh may improve its first plan, 0 to 1000000; 50 for each agent unless told";
+
 const LIMIT: &str = most_splits!("How often the search may split on a conflict, 0 to ");
 
 fn file<'a>(alloc: Global, name: &'a str, help: &'a str) -> Arg<'a>
@@ -178,6 +184,18 @@ fn search<'a>(alloc: Global) -> Arg<'a>
         .help(SEARCH)
 }
 
+// Returns the option by which a number of improvements is asked for.
+fn improve<'a>(alloc: Global) -> Arg<'a>
+    ensures rule { rule_of result ≡ number_option (codes "improve") 0 most_improvements }
+    ensures local { result.global ≡ false }
+{
+    Arg::new(alloc, "improve")
+        .long("improve")
+        .value_name("N")
+        .value_parser(value_parser!(u32).range(0..=i64::from(MOST_IMPROVEMENTS)))
+        .help(IMPROVE)
+}
+
 fn solve<'a>(alloc: Global) -> Result<Command<'a>, AllocError>
     ensures { IfOk result (IsCommand solve_command) }
 {
@@ -190,7 +208,8 @@ fn solve<'a>(alloc: Global) -> Result<Command<'a>, AllocError>
         .arg(number(alloc, "LIMIT", 0, MOST_SPLITS, LIMIT))?
         .arg(file(alloc, "PLAN", "Where the plan text is written"))?
         .arg(file(alloc, "CERT", "Where the certificate is written"))?
-        .arg(search(alloc))
+        .arg(search(alloc))?
+        .arg(improve(alloc))
 }
 
 fn check<'a>(alloc: Global) -> Result<Command<'a>, AllocError>

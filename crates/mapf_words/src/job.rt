@@ -8,6 +8,12 @@ pub enum Search {
     Cbsh,
 }
 
+/// How many improvements of a first plan may be asked for, at most.
+pub const MOST_IMPROVEMENTS: u32 = 1_000_000;
+
+/// How many improvements are tried for each agent if no number is asked for.
+pub const IMPROVEMENTS_FOR_EACH: u32 = 50;
+
 /// What the arguments ask for. Strings are names of files.
 #[derive(Debug, PartialEq, Eq, Drop)]
 pub enum Job {
@@ -33,6 +39,8 @@ pub enum Job {
         k: u32,
         /// 0 to 100,000.
         limit: u32,
+        /// How many improvements of a first plan are tried: 0 to 1,000,000.
+        improvements: u32,
         plan: String,
         cert: String,
     },

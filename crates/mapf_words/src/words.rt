@@ -1,13 +1,14 @@
 //! The reader of arguments: it makes a job of them, or says why there is none. `main` calls it.
-ghost use Rattle.std.specs.Prelude.{◌≡◌, ◌⊎◌, ◌≤◌, ◌<◌, ◌↔◌, ℕ, IfOk, OnOk, Ok, codes, map, vec_len};
+ghost use Rattle.std.specs.Prelude.{◌≡◌, ◌⊎◌, ◌≤◌, ◌<◌, ◌↔◌, ℕ, None, IfOk, OnOk, Ok, codes, map, vec_len};
 ghost use Rattle.std.specs.String.{string_bytes};
-ghost use Rattle.clap.specs.Matches.{found_of};
+ghost use Rattle.clap.specs.Matches.{first_value, found_of};
 ghost use Rattle.mapf_words.specs.CommandLine.{IsReadFrom};
 ghost use Rattle.mapf_words.specs.Jobs.{AreDistinctNames, AreOwnOutputs, HasOwnOutputs, IsInRange, IsJobOf, IsNumberOf};
-ghost use Rattle.mapf_words.specs.Jobs.{IsSearchOf, named};
+ghost use Rattle.mapf_words.specs.Jobs.{IsImprovementsOf, IsSearchOf, most_improvements, named};
+ghost use Rattle.mapf_model.specs.Limits.{most_agents};
 
 use crate::command::mapf;
-use crate::job::{Job, Search};
+use crate::job::{IMPROVEMENTS_FOR_EACH, Job, MOST_IMPROVEMENTS, Search};
 use crate::words_fault::WordsFault;
 use clap::ArgMatches;
 use clap::error::ErrorKind;
@@ -86,6 +87,31 @@ fn search_of(alloc: Global, given: &ArgMatches<'_>) -> Result<Search, WordsFault
     }
 }
 
+// Returns how many improvements of a first plan are to be tried.
+fn improvements_of(alloc: Global, given: &ArgMatches<'_>, k: u32) -> Result<u32, WordsFault>
+    requires { k ≤ most_agents }
+    ensures range { IfOk result (λ n. n ≤ most_improvements) }
+    ensures number { IfOk result (IsImprovementsOf (found_of given.now) k) }
+{
+    match given.get_str("improve") {
+        None => Ok(IMPROVEMENTS_FOR_EACH * k),
+        Some(_) => number_of(alloc, given, "improve", 0, MOST_IMPROVEMENTS),
+    }
+}
+
+// Refuses the option `--improve`, which plain search has no use for.
+fn no_improvements(alloc: Global, given: &ArgMatches<'_>) -> Result<(), WordsFault>
+    ensures { OnOk result (first_value (found_of given.now) (codes "improve") ≡ None) }
+{
+    match given.get_str("improve") {
+        None => Ok(()),
+        Some(_) => Err(WordsFault::Bad(String::from_str(
+            alloc,
+            "error: --improve is for --search cbsh\n",
+        )?)),
+    }
+}
+
 fn solve_of(alloc: Global, given: &ArgMatches<'_>) -> Result<Job, WordsFault>
     ensures range { IfOk result IsInRange }
     ensures named { IfOk result (IsJobOf (codes "solve") (found_of given.now)) }
@@ -100,20 +126,24 @@ fn solve_of(alloc: Global, given: &ArgMatches<'_>) -> Result<Job, WordsFault>
     let cert = text_of(alloc, given, "CERT")?;
     own_outputs(alloc, &map, &scen, &plan, &cert)?;
     match search {
-        Search::Cbs => Ok(Job::Solve {
-            map,
-            scen,
-            k,
-            limit,
-            plan,
-            cert,
-        }),
+        Search::Cbs => {
+            no_improvements(alloc, given)?;
+            Ok(Job::Solve {
+                map,
+                scen,
+                k,
+                limit,
+                plan,
+                cert,
+            })
+        }
         Search::Cbsh => Ok(Job::SolveBy {
             search,
             map,
             scen,
             k,
             limit,
+            improvements: improvements_of(alloc, given, k)?,
             plan,
             cert,
         }),

@@ -18,7 +18,7 @@ returns-in-Err-Refused g c =
     record {
       texts = rw c.with_refusal-in-Err-Refused.ensures (answered_texts c.write_plain.result (Some c.in-Err-Refused.refusal) _ _ _ _ _ _ (λ kind plan cert is. (is.0, λ refused. is.1)) c.write_plain.ensures.texts);
       sinks = rw c.with_refusal-in-Err-Refused.ensures (answered_sinks c.write_plain.result (Some c.in-Err-Refused.refusal) _ _ _ _ c.write_plain.ensures.sinks);
-      limit = rw c.with_refusal-in-Err-Refused.ensures (answered_limit c.write_plain.result (Some c.in-Err-Refused.refusal) c.args.limit c.write_plain.ensures.limit);
+      limit = rw c.with_refusal-in-Err-Refused.ensures (answered_limit c.write_plain.result (Some c.in-Err-Refused.refusal) c.args.effort.limit c.write_plain.ensures.limit);
       refused = rw c.with_refusal-in-Err-Refused.ensures (some_refused c.write_plain.result c.in-Err-Refused.refusal HasNoCheckMemory (subst HasNoRefusedMemory same c.in-Err-Refused.ensures.inner));
       fault = rw c.with_refusal-in-Err-Refused.ensures (answered_fault c.write_plain.result (Some c.in-Err-Refused.refusal) _ c.write_plain.ensures.fault);
     }

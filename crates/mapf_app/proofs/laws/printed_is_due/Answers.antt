@@ -2,7 +2,7 @@ use Rattle.std.proofs.Common.{ℕ, List, refl, sym, subst}
 use Rattle.mapf_app.specs.Headline.{IsVerdictFor}
 use Rattle.mapf_app.specs.Solved.{Prints}
 use Rattle.mapf_app.specs.declared.kind.Kind.{Kind}
-use Rattle.mapf_app.specs.declared.kind.Kind.TheVariants.{Found, Impossible, Limit}
+use Rattle.mapf_app.specs.declared.kind.Kind.TheVariants.{Found, Impossible, Limit, Within}
 use Rattle.mapf_checker.specs.Verdict.{AreAccepted}
 use Rattle.mapf_checker.specs.declared.fault.Verdict.{Verdict}
 use Rattle.mapf_model.specs.Plan.{Instance}
@@ -13,6 +13,7 @@ accepted_as : (search : Search) (problem : Instance) (kind : Kind) (verdict : Ve
 accepted_as search problem (Found cost) verdict plan cert prints is = subst (AreAccepted problem plan cert) (sym is) prints.accepted
 accepted_as search problem Impossible verdict plan cert prints is = subst (AreAccepted problem plan cert) (sym is) prints.accepted
 accepted_as search problem (Limit cause bound) verdict plan cert prints is = subst (AreAccepted problem plan cert) (sym is) prints.accepted
+accepted_as search problem (Within bound cost) verdict plan cert prints is = subst (AreAccepted problem plan cert) (sym is) prints.accepted
 
 pub returns : goal.returns
 returns c = λ map scen plan cert count search kind verdict truly is. record {
