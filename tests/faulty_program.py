@@ -1,5 +1,5 @@
-"""One preview of the program in which many second searches stand beside each other, each with a fault of its own, so
-that it is built once. The height of a map tells which of them answers.
+"""One preview of the program in which many second searches, or many plans that it begins with, stand beside each other,
+each with a fault of its own, so that it is built once. The height of a map tells which of them answers.
 """
 
 import re
@@ -12,36 +12,78 @@ from clauses import CRATES, TOP, read
 # The second search, which the program calls. It stands on crates of its own.
 SEARCH = "mapf_groups"
 
+# What makes the plan that the second search begins with. It is a file of the crate of the runs, and becomes a crate here.
+PLANNER, RUNS, PLANNER_FILE = "mapf_planner", "mapf_app", "src/plan_in_hand.rt"
+
 # The height of a map for the first fault. That of the others is greater, and of no problem's own map as great.
 FIRST = 100
 
 # How many seconds one run may take. Without a fault it takes a small part of one.
 SECONDS = 20
 
-# The crate that stands in the place of the second search.
-CHOICE = """//! The second search with the fault that the height of the map names, or without one.
+
+@dataclass(frozen=True)
+class Choice:
+    """What stands in the place of a crate: the choice between its copies, the type of what each of them returns, and how
+    each is called.
+    """
+
+    source: str
+    type: str
+    call: str
+
+    def text(self, crate, numbers):
+        """The source, for the copies of the crate with these numbers besides that without a fault."""
+        arms = [f"        {height_for(number)} => {crate}_{number}::{self.call},\n" for number in numbers]
+        return self.source % {"crate": crate, "arms": "".join(arms)}
+
+    def shared(self, crate, text):
+        """A source of a copy of the crate, with the type of the copy that has no fault in the place of its own."""
+        own = rf"(?:^///.*\n|^#\[derive.*\n)*^pub (?:enum|struct) {self.type} {{\n(?:.*\n)*?}}\n"
+        return re.sub(own, f"pub use {crate}_0::{self.type};\n", text, flags=re.MULTILINE)
+
+
+CHOICES = {
+    SEARCH: Choice("""//! The second search with the fault that the height of the map names, or without one.
 use mapf_model::{OutOfMemory, Problem, Watcher};
 use std::alloc::Global;
 
-pub use search_0::Outcome;
+pub use %(crate)s_0::Outcome;
 
 /// Searches as the chosen one does.
-pub fn search_watched<W: Watcher>(
+pub fn search_below<W: Watcher>(
     alloc: Global,
     problem: &Problem,
     limit: u32,
+    below: u64,
     watcher: &mut W,
 ) -> Result<Outcome, OutOfMemory> {
     match problem.grid().height() {
-%s
-        _ => search_0::search_watched(alloc, problem, limit, watcher),
+%(arms)s        _ => %(crate)s_0::search_below(alloc, problem, limit, below, watcher),
     }
 }
-"""
-ARM = "        %d => search_%d::search_watched(alloc, problem, limit, watcher),"
+""", "Outcome", "search_below(alloc, problem, limit, below, watcher)"),
+    PLANNER: Choice("""//! The plan that is made with the fault that the height of the map names, or without one.
+use mapf_model::{OutOfMemory, Problem};
+use std::alloc::Global;
 
-# The outcome of a search with a fault is that of the search without one.
-OUTCOME = "//! The result of a search.\npub use search_0::Outcome;\n"
+pub use %(crate)s_0::PlanInHand;
+
+/// Makes a plan as the chosen one does.
+pub fn plan_in_hand(
+    alloc: Global,
+    problem: &Problem,
+    improvements: u32,
+) -> Result<Option<PlanInHand>, OutOfMemory> {
+    match problem.grid().height() {
+%(arms)s        _ => %(crate)s_0::plan_in_hand(alloc, problem, improvements),
+    }
+}
+""", "PlanInHand", "plan_in_hand(alloc, problem, improvements)"),
+}
+
+# What stands in the place of the planner's file.
+HANDED_ON = "//! The plan that the second search begins with.\npub use mapf_planner::{PlanInHand, plan_in_hand};\n"
 
 
 class NotBuilt(Exception):
@@ -72,52 +114,72 @@ def height_for(number):
 
 
 def put_side_by_side(room, planted):
-    """Makes the sources of the program in a folder: a copy of the second search without a fault and one with each, and
-    in its place the choice between them.
+    """Makes the sources of the program in a folder: of the second search and of the planner a copy without a fault and
+    one with each that is in it, and in their places the choices between them.
     """
-    crates, below = copy_sources(room), crates_below()
-    lines = [line for line in read("crates.txt").splitlines() if not line.startswith(f"{SEARCH}:")]
-    shutil.copytree(crates / SEARCH, crates / "search_0")
-    lines.append(f"search_0: {' '.join(below[SEARCH])}")
+    crates = copy_sources(room)
+    stands_on = stands_on_with_planner(crates)
+    for crate in CHOICES:
+        (crates / crate).rename(crates / f"{crate}_0")
+        stands_on[f"{crate}_0"] = stands_on[crate]
+    numbers = {crate: [0] for crate in CHOICES}
     for number, fault in enumerate(planted, 1):
-        lines += put_fault(crates, number, fault, below)
-    lines.append(f"{SEARCH}: mapf_model " + " ".join(f"search_{number}" for number in range(len(planted) + 1)))
-    (room / "crates.txt").write_text("".join(f"{line}\n" for line in lines))
-    shutil.rmtree(crates / SEARCH)
-    arms = (ARM % (height_for(number), number) for number in range(1, len(planted) + 1))
-    put(crates / SEARCH / "src" / "lib.rt", CHOICE % "\n".join(arms))
+        crate = SEARCH if fault.crate in with_below(SEARCH, stands_on) else PLANNER
+        below = {it: stands_on[it] for it in with_below(crate, stands_on) if it in stands_on}
+        stands_on |= put_fault(crates, number, fault, below)
+        numbers[crate].append(number)
+    for crate, choice in CHOICES.items():
+        put(crates / crate / "src" / "lib.rt", choice.text(crate, numbers[crate][1:]))
+        stands_on[crate] = ["mapf_model", *(f"{crate}_{number}" for number in numbers[crate])]
+    lines = (f"{crate}: {' '.join(below)}\n" for crate, below in stands_on.items())
+    (room / "crates.txt").write_text("".join(lines))
+
+
+def stands_on_with_planner(crates):
+    """What each crate stands on, where the planner is one."""
+    listed = dict(re.findall(r"^(\w+): *(.*)$", read("crates.txt"), re.MULTILINE))
+    stands_on = {crate: below.split() for crate, below in listed.items()}
+    source = (crates / RUNS / PLANNER_FILE).read_text()
+    put(crates / PLANNER / "src" / "lib.rt", source)
+    put(crates / RUNS / PLANNER_FILE, HANDED_ON)
+    named = set(re.findall(r"^use (\w+)::", source, re.MULTILINE))
+    stands_on[PLANNER] = [crate for crate in stands_on[RUNS] if crate in named]
+    stands_on[RUNS].append(PLANNER)
+    return stands_on
 
 
 def put_fault(crates, number, fault, below):
-    """Puts a search with a fault beside the others: copies of the crate with the fault and of those of the search that
-    stand on it. Answers the lines of crates.txt for them.
+    """Puts a copy with a fault beside the others: copies of the crate with the fault and of those that stand on it, of a
+    crate that is chosen and of those below it. Answers what each of them stands on.
     """
-    names = {crate: f"{crate}_{number}" for crate in below if fault.crate in with_below(crate, below)}
-    names[SEARCH] = f"search_{number}"
-    lines = []
+    faulty = PLANNER if fault.crate == RUNS else fault.crate
+    names = {crate: f"{crate}_{number}" for crate in below if faulty in with_below(crate, below)}
     for crate, name in names.items():
-        shutil.copytree(CRATES / crate, crates / name, ignore=shutil.ignore_patterns("out", "must-fail"))
+        shutil.copytree(place_of(crates, crate), crates / name)
         for source in (crates / name / "src").glob("*.rt"):
-            put(source, renamed(source.read_text(), names))
-        shared = ["search_0"] if crate == SEARCH else []
-        lines.append(f"{name}: {' '.join([*(names.get(it, it) for it in below[crate]), *shared])}")
-    put(crates / names[SEARCH] / "src" / "outcome.rt", OUTCOME)
+            put(source, copied(source.read_text(), crate, names))
     for file in fault.files:
         planted = fault.planted(file, (CRATES / fault.crate / file).read_text())
-        put(crates / names[fault.crate] / file, renamed(planted, names))
-    return lines
+        place = "src/lib.rt" if fault.crate == RUNS else file
+        put(crates / names[faulty] / place, copied(planted, faulty, names))
+    shared = {crate: [f"{crate}_0"] if crate in CHOICES else [] for crate in names}
+    return {name: [*(names.get(it, it) for it in below[crate]), *shared[crate]] for crate, name in names.items()}
+
+
+def place_of(crates, crate):
+    """The folder of a crate without a fault."""
+    return crates / (f"{crate}_0" if crate in CHOICES else crate)
+
+
+def copied(text, crate, names):
+    """A source of a crate's copy, in which crates have the names of their copies."""
+    found = renamed(text, names)
+    return CHOICES[crate].shared(crate, found) if crate in CHOICES else found
 
 
 def renamed(text, names):
     """A source in which crates have the names of their copies."""
     return re.sub(rf"\b({'|'.join(names)})\b", lambda found: names[found[1]], text)
-
-
-def crates_below():
-    """What the search and the crates below it stand on, in the order of crates.txt."""
-    listed = dict(re.findall(r"^(\w+): *(.*)$", read("crates.txt"), re.MULTILINE))
-    stands_on = {crate: below.split() for crate, below in listed.items()}
-    return {crate: below for crate, below in stands_on.items() if crate in with_below(SEARCH, stands_on)}
 
 
 def with_below(crate, stands_on):
