@@ -47,9 +47,14 @@ HEAD = ("agents", "solved", "rate", "makespan", "solve", "check", "splits", "cer
 
 def cells(one: Point) -> tuple[str, ...]:
     """What a table shows of a point, below HEAD."""
-    solved = f"{one.solved} of {one.tried}" + (f", {one.pending} to go" if one.pending else "")
-    return (str(one.agents), solved, f"{one.rate():.2f}", count(one.makespan), seconds(one.solve), seconds(one.check),
-            count(one.splits), size(one.certificate), size(one.memory * 1024) if one.memory else "")
+    return (str(one.agents), f"{one.solved} of {one.tried}{to_go(one.pending)}", f"{one.rate():.2f}",
+            count(one.makespan), seconds(one.solve), seconds(one.check), count(one.splits), size(one.certificate),
+            size(one.memory * 1024) if one.memory else "")
+
+
+def to_go(pending: int) -> str:
+    """How many are still due, as it follows a number."""
+    return f", {pending} to go" if pending else ""
 
 
 def table(found: list[Point]) -> str:
@@ -57,17 +62,22 @@ def table(found: list[Point]) -> str:
     lines = [("map", "scenarios", *HEAD)] + [(one.map, one.kind, *cells(one)) for one in found]
     if len({one.kind for one in found}) < 2:
         lines = [(line[0], *line[2:]) for line in lines]
+    return aligned(lines)
+
+
+def aligned(lines: list[tuple[str, ...]]) -> str:
+    """The lines of a table, of which the first is its head, with columns of equal width."""
     widths = [max(map(len, column)) for column in zip(*lines)]
-    lines = [[cell.ljust(width) if at == 0 else cell.rjust(width) for at, (cell, width) in enumerate(zip(line, widths))]
-             for line in lines]
+    padded = [[cell.ljust(width) if at == 0 else cell.rjust(width)
+               for at, (cell, width) in enumerate(zip(line, widths))] for line in lines]
     rule = ["-" * width if at == 0 else "-" * (width - 1) + ":" for at, width in enumerate(widths)]
-    return "\n".join("| " + " | ".join(line) + " |" for line in [lines[0], rule, *lines[1:]])
+    return "\n".join("| " + " | ".join(line) + " |" for line in [padded[0], rule, *padded[1:]])
 
 
 # The page.
 
 def page(found: list[Point], rows: list[Row], search: str, limit: int, most_seconds: float) -> str:
-    """A page of HTML: no network, no script."""
+    """The page of a sweep."""
     maps = list(dict.fromkeys(one.map for one in found))
     of_map = {name: [one for one in found if one.map == name] for name in maps}
     plots = "".join(plot(name, of_map[name]) for name in maps)
@@ -75,15 +85,7 @@ def page(found: list[Point], rows: list[Row], search: str, limit: int, most_seco
     counts = "".join(cactus(name, times_of(rows, name), seconds) for name in maps)
     tables = "".join(table_of(name, of_map[name], len(found) <= MANY) for name in maps)
     partly = " A hollow mark: not every scenario has come that far yet." if any(one.pending for one in found) else ""
-    return f"""<!doctype html>
-<html lang="en">
-<meta charset="utf-8">
-<meta name="viewport" content="width=device-width, initial-scale=1">
-<meta name="color-scheme" content="light dark">
-<title>Success rate of mapf</title>
-<style>
-{STYLE.read_text()}</style>
-<h1>Success rate of mapf</h1>
+    return document("Success rate of mapf", f"""\
 <p>The share of scenarios that were solved, against the number of agents. Solved: <code>mapf solve --search
 {search}</code> found a cheapest plan within {limit:,} splits and {most_seconds:g} seconds, and <code>mapf check</code>
 confirmed from its certificate that no valid plan is cheaper. After the first number of agents with which it isn't
@@ -101,7 +103,21 @@ time: a cactus plot.</p>
 <h2>Each number of agents</h2>
 <p>Seconds are processor time. Makespans, seconds, splits and sizes of certificates are medians over the scenarios that
 were solved; memory is the most that solve or check held in any run (8 MB is that of the process that started them).</p>
-{tables}{troubles([row for row in rows if row.status not in USUAL])}</html>
+{tables}{troubles(rows)}""")
+
+
+def document(title: str, body: str) -> str:
+    """A page of HTML: no network, no script."""
+    return f"""<!doctype html>
+<html lang="en">
+<meta charset="utf-8">
+<meta name="viewport" content="width=device-width, initial-scale=1">
+<meta name="color-scheme" content="light dark">
+<title>{title}</title>
+<style>
+{STYLE.read_text()}</style>
+<h1>{title}</h1>
+{body}</html>
 """
 
 
@@ -123,10 +139,20 @@ def ends(rows: list[Row]) -> str:
 def table_of(name: str, found: list[Point], is_open: bool) -> str:
     """The points of one map as a table of the page."""
     kinds = len({one.kind for one in found}) > 1
-    lines = "".join(html_line("td", ((one.kind,) if kinds else ()) + cells(one)) for one in found)
-    head = html_line("th", (("scenarios",) if kinds else ()) + HEAD)
+    lines = [(("scenarios",) if kinds else ()) + HEAD, *(((one.kind,) if kinds else ()) + cells(one) for one in found)]
+    return folded(name, lines, is_open)
+
+
+def folded(name: str, lines: list[tuple[str, ...]], is_open: bool) -> str:
+    """A table of the page, of which the first of the lines is its head, below a name that opens and folds it."""
     return (f"<details{' open' if is_open else ''}><summary>{escape(name)}</summary><div class=\"wide\"><table>"
-            f"<thead>{head}</thead><tbody>{lines}</tbody></table></div></details>\n")
+            f"{html_rows(lines)}</table></div></details>\n")
+
+
+def html_rows(lines: list[tuple[str, ...]]) -> str:
+    """The rows of a table, of which the first is its head."""
+    return (f"<thead>{html_line('th', lines[0])}</thead>"
+            f"<tbody>{''.join(html_line('td', line) for line in lines[1:])}</tbody>")
 
 
 def html_line(tag: str, values: Iterable[str]) -> str:
@@ -135,10 +161,10 @@ def html_line(tag: str, values: Iterable[str]) -> str:
 
 
 def troubles(rows: list[Row]) -> str:
-    """The runs that ended otherwise than with an answer or a limit."""
-    if not rows:
+    """Of these runs those that ended otherwise than with an answer or a limit."""
+    lines = [(row.scenario, row.agents, row.status, row.note, row.verdict) for row in rows if row.status not in USUAL]
+    if not lines:
         return ""
-    lines = "".join(html_line("td", (row.scenario, row.agents, row.status, row.note, row.verdict)) for row in rows)
-    head = html_line("th", ("scenario", "agents", "status", "what was said", "verdict"))
-    return (f"<h2>Runs that failed</h2>\n<div class=\"wide\"><table class=\"words\"><thead>{head}</thead>"
-            f"<tbody>{lines}</tbody></table></div>\n")
+    head = ("scenario", "agents", "status", "what was said", "verdict")
+    return (f"<h2>Runs that failed</h2>\n<div class=\"wide\"><table class=\"words\">{html_rows([head, *lines])}"
+            "</table></div>\n")

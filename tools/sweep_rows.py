@@ -42,6 +42,13 @@ class Row:
     check_kb: str = ""
     search: str = ""
     note: str = ""
+    bound: str = ""
+    first_seconds: str = ""
+    first_cost: str = ""
+    first_bound: str = ""
+    quick_seconds: str = ""
+    quick_cost: str = ""
+    quick_bound: str = ""
 
     def key(self) -> tuple[str, int]:
         """What no two runs share: the scenario and the number of agents."""
@@ -53,6 +60,9 @@ class Row:
 
 
 NAMES = [field.name for field in fields(Row)]
+
+# The columns of a table from before sweeps of gaps.
+OLD_NAMES = NAMES[:NAMES.index("bound")]
 
 
 def natural(name: str) -> Natural:
@@ -66,26 +76,22 @@ class Results:
     def __init__(self, path: Path) -> None:
         self.path = path
         self.rows: dict[tuple[str, int], Row] = {}
-        whole = self.read()
-        with open(path, "ab") as file:
-            file.truncate(whole)
-        if whole == 0:
-            self.append(NAMES)
+        self.read()
+        self.sort()
 
-    def read(self) -> int:
-        """Reads the rows, and answers how many bytes hold whole lines: a last line that was cut doesn't count."""
+    def read(self) -> None:
+        """Reads the rows. A last line that was cut doesn't count."""
         data = self.path.read_bytes() if self.path.exists() else b""
         whole = data.rfind(b"\n") + 1
         lines = list(csv.reader(io.StringIO(data[:whole].decode(errors="surrogateescape"), newline="")))
-        if lines and lines[0] != NAMES:
+        if lines and lines[0] not in (NAMES, OLD_NAMES):
             raise ToolError(f"{self.path} isn't a table of this tool: give another OUT, or move that file away")
         for number, line in enumerate(lines[1:], 2):
-            if len(line) != len(NAMES) or not line[NAMES.index("agents")].isdigit():
+            if len(line) != len(lines[0]) or not line[NAMES.index("agents")].isdigit():
                 raise ToolError(f"{self.path}, row {number} isn't a row of this tool: remove that line and call again")
             row = Row(*line)
             if row.status not in (NO_MAP, NO_AGENTS):
                 self.rows[row.key()] = row
-        return whole
 
     def forget(self, keys: Iterable[tuple[str, int]]) -> None:
         """Takes these rows for runs that weren't made. In the file they stand until others are in their place."""

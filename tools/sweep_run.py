@@ -14,6 +14,7 @@ import signal
 import sys
 import time
 from collections import namedtuple
+from collections.abc import Callable
 
 # How often a run looks whether tools/sweep is still there, in seconds.
 LOOK = 0.5
@@ -24,12 +25,13 @@ READ, SHOWN = 4096, 120
 # The search of `solve` without an option. A program from before --search has no other.
 PLAIN = "cbs"
 
-# What `solve` may say with each exit status, how a row calls it, and what `check` has to say of it.
-ANSWERS = {
-    0: (r"cost (?P<cost>[0-9]+)\n", "solved", "optimal {cost}"),
-    3: (r"impossible\n", "impossible", "impossible"),
-    4: (r"limit (?P<splits>[0-9]+|ticks) bound (?P<bound>[0-9]+)\n", "limit", "bound {bound}"),
-}
+# What `solve` may say with which exit status, how a row calls it, and what `check` has to say of it.
+ANSWERS = [
+    (0, r"cost (?P<cost>[0-9]+)\n", "solved", "optimal {cost}"),
+    (3, r"impossible\n", "impossible", "impossible"),
+    (4, r"limit (?P<splits>[0-9]+|ticks) bound (?P<bound>[0-9]+)\n", "limit", "bound {bound}"),
+    (4, r"within (?P<bound>[0-9]+) (?P<cost>[0-9]+)\n", "limit", "within {bound} {cost}"),
+]
 
 # Fields of a row, by their names. What isn't known is None.
 Fields = dict[str, str | int | float | None]
@@ -39,16 +41,27 @@ Fields = dict[str, str | int | float | None]
 # line that it said, of the errors first.
 Ended = namedtuple("Ended", "status trouble note seconds kb out said")
 
+# What `solve` answered: how a row calls it; what `check` has to say of it; the plan's cost; what no valid plan costs
+# less than; and the splits that a limit tells. What it doesn't tell is None.
+Answer = namedtuple("Answer", "status verdict cost bound splits")
+
 
 def main() -> None:
-    program, folder, seconds, search, limit, grid, scenario, agents = sys.argv[1:]
+    program, folder, seconds, search, limit, *problem = sys.argv[1:]
+    print_row(folder, problem, lambda places: outcome(program, search, places, limit, float(seconds)))
+
+
+def print_row(folder: str, problem: list[str], fields_of: Callable[[list[str]], Fields]) -> None:
+    """Prints the fields of a row. The run that finds them is in a folder of its own, and gets the problem, MAP, SCEN
+    and K, with whole paths.
+    """
     own = os.path.join(os.path.abspath(folder), f"run-{os.urandom(8).hex()}")
-    problem = [os.path.abspath(grid), os.path.abspath(scenario), agents]
+    places = [*map(os.path.abspath, problem[:2]), *problem[2:]]
     os.mkdir(own)
     os.chdir(own)
     signal.pthread_sigmask(signal.SIG_BLOCK, {signal.SIGCHLD})
     try:
-        print(json.dumps(outcome(program, search, problem, limit, float(seconds))), flush=True)
+        print(json.dumps(fields_of(places)), flush=True)
     except OSError as error:
         sys.exit(f"{error.filename}: {error.strerror}")
     finally:
@@ -72,17 +85,34 @@ def outcome(program: str, search: str, problem: list[str], limit: str, seconds: 
     row = {"solve_seconds": solved.seconds, "solve_kb": solved.kb, "note": solved.note, "status": solved.trouble}
     if solved.trouble:
         return row
-    form, status, wanted = ANSWERS.get(solved.status, ("(?!)", None, None))
-    answer = re.fullmatch(form, solved.out)
-    if not answer:
-        return {**row, "status": "failed", "note": f"solve: status {solved.status}, {solved.said}"}
-    told = answer.groupdict()
-    row.update(status=status, cost=told.get("cost"), certificate_bytes=size("cert"), splits=told.get("splits"))
-    row["note"] = first_line(first("err"))
-    if row["splits"] in (None, "ticks"):
-        row["splits"] = count_splits("cert")
-    row.update(checked(program, problem, seconds, wanted.format(**told)))
-    return {**row, "makespan": makespan("plan") if status == "solved" else None}
+    answer = answer_of(solved)
+    if answer is None:
+        return {**row, "status": "failed", "note": no_answer(solved)}
+    row.update(told(answer), note=first_line(first("err")))
+    row.update(checked(program, problem, seconds, answer.verdict))
+    return row
+
+
+def answer_of(solved: Ended) -> Answer | None:
+    """What a call of `solve` answered, none where that isn't an answer."""
+    for number, form, status, verdict in ANSWERS:
+        if number == solved.status and (found := re.fullmatch(form, solved.out)):
+            said = found.groupdict()
+            cost = said.get("cost")
+            return Answer(status, verdict.format(**said), cost, said.get("bound", cost), said.get("splits"))
+    return None
+
+
+def no_answer(solved: Ended) -> str:
+    """In words, what `solve` said in place of an answer."""
+    return f"solve: status {solved.status}, {solved.said}"
+
+
+def told(answer: Answer) -> Fields:
+    """The fields of an answer, of which `plan` and `cert` are here."""
+    return {"status": answer.status, "cost": answer.cost, "bound": answer.bound,
+            "splits": count_splits("cert") if answer.splits in (None, "ticks") else answer.splits,
+            "certificate_bytes": size("cert"), "makespan": makespan("plan") if answer.cost else None}
 
 
 def checked(program: str, problem: list[str], seconds: float, wanted: str) -> Fields:

@@ -16,6 +16,7 @@ from xml.etree import ElementTree
 
 from harness import SECONDS, awaited
 from sweep_bench import NUMBERS, SWEEP, Bench
+from sweep_rows import OLD_NAMES
 
 
 def tests(tally):
@@ -28,6 +29,7 @@ def tests(tally):
         for sent in (signal.SIGINT, signal.SIGTERM, signal.SIGKILL):
             tally.add(f"a sweep that signal {sent} stops", stopped(bench, wanted, sent, f"stopped-{sent}"))
         tally.add("a last line that was cut", cut_line(bench, wanted))
+        tally.add("a folder from before --gap", old_folder(bench, wanted))
         for name, lines, more, status, row in TROUBLES:
             tally.add(f"a program that {name}", troubled(bench, name, lines, more, status, row))
         tally.add("a program that hangs in a sweep that is stopped", leaves_nothing(bench))
@@ -89,6 +91,8 @@ def row_faults(row):
         return [f"{row['scenario']} with {row['agents']} agents: {row}"]
     if row["search"] != "cbs":
         return [f"its search is {row['search']}"]
+    if row["bound"] != row["verdict"].split(" ")[1] or row["first_seconds"] or row["quick_cost"]:
+        return [f"its bound is {row['bound']}, or it has columns of a sweep of gaps: {row}"]
     is_measured = int(row["certificate_bytes"]) > 40 and all(float(row[name]) > 0 for name in ("solve_kb", "check_kb"))
     return [] if is_measured and 0 <= int(row["splits"]) <= 20 else [f"what was measured is {row}"]
 
@@ -136,6 +140,22 @@ def cut_line(bench, wanted):
     faults = the_same(bench, wanted, "four", bench.call("four"))
     made = bench.noted()
     return faults + ([] if set(made) == {bench.solve_of(wanted[-1])} else [f"{list(made)} were run again"])
+
+
+def old_folder(bench, wanted):
+    """One whose table has fewer columns and whose settings don't tell the measure is taken as it is."""
+    folder = shutil.copytree(bench.folder / "whole", bench.folder / "old")
+    settings = json.loads((folder / "settings.json").read_text())
+    del settings["measure"]
+    (folder / "settings.json").write_text(json.dumps(settings) + "\n")
+    rows = [line.split(",")[:len(OLD_NAMES)] for line in (folder / "results.csv").read_text().splitlines()]
+    (folder / "results.csv").write_text("".join(",".join(row) + "\n" for row in rows[:-1]))
+    bench.noted()
+    ended = bench.call("old")
+    made, table = bench.noted(), bench.table("old")
+    is_kept = table[:-1] == [{**row, "bound": ""} for row in wanted[:-1]] and table[-1] == wanted[-1]
+    is_good = ended.returncode == 0 and rows[0] == OLD_NAMES and set(made) == {bench.solve_of(wanted[-1])}
+    return [] if is_good and is_kept else [f"{list(made)} were run again, {table}, {ended.stderr}"]
 
 
 # A program that does something wrong, in the shell's words; the words after those of a call; the status of the call;
