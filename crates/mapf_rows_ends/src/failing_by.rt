@@ -15,6 +15,9 @@ use std::test::Fail;
 // More bytes than any text here has.
 const ROOM: usize = 1000;
 
+// As many improvements as `solve_by` tries, so that the plan is the same.
+const IMPROVEMENTS: u32 = 100;
+
 // Three agents on an open square. The first and the third are opposed, and the second crosses their way.
 const OPPOSED: Given = Given {
     map: CROSSING_MAP,
@@ -73,7 +76,7 @@ fn solve_into(
         search: Search::Cbsh,
         k: given.k,
         limit,
-        improvements: 10,
+        improvements: IMPROVEMENTS,
         watcher: &mut Unwatched,
     };
     run_solve_by(alloc, &mut map, &mut scen, asked, plan, cert)
