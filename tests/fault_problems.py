@@ -57,6 +57,10 @@ CROWDED = [("open", 13, 1, AMPLE), ("open", 15, 1, AMPLE), ("open", 16, 3, AMPLE
            ("random", 15, 2, AMPLE), ("random", 15, 4, AMPLE), ("random", 16, 3, AMPLE), ("random", 18, 3, AMPLE),
            ("maze", 13, 3, AMPLE), ("corridors", 14, 2, AMPLE)]
 
+# At once at the limit, so that prices are tried.
+PRICED = [("open", 18, 1, 0), ("open", 20, 2, 0), ("random", 18, 3, 0), ("random", 16, 3, 0), ("maze", 13, 3, 0),
+          ("corridors", 5, 1, 0)]
+
 
 @dataclass(frozen=True)
 class Problem:
@@ -87,7 +91,7 @@ def problems():
     maps = {name: text.split() for name, text in MAPS.items()}
     maps |= {"open": MADE.empty(8, 8), "random": MADE.random_obstacles(8, 8, 20, MADE.Numbers(8))}
     return [*(problem_of(Case(TESTS / "cases" / name)) for name in CASES), *(example(*words) for words in SOLVED),
-            *(drawn(maps[name], name, *numbers) for name, *numbers in DRAWN + CROWDED)]
+            *(drawn(maps[name], name, *numbers) for name, *numbers in DRAWN + CROWDED + PRICED)]
 
 
 def problem_of(case):

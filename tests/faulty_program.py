@@ -5,7 +5,9 @@ each with a fault of its own, so that it is built once. The height of a map tell
 import re
 import shutil
 import subprocess
+import tempfile
 from dataclasses import dataclass
+from pathlib import Path
 
 from clauses import CRATES, TOP, read
 
@@ -194,8 +196,7 @@ def put(place, text):
 
 def run_all(room, runs):
     """Runs the program in a folder with each list of words, all in one preview. Answers how each ended, by its name."""
-    cases = room / "cases"
-    cases.mkdir()
+    cases = Path(tempfile.mkdtemp(prefix="cases", dir=room))
     for name, words in runs.items():
         (cases / name).write_text("")
         (cases / f"{name}.args").write_text("".join(f"{word}\n" for word in words))

@@ -33,11 +33,19 @@ const FEWEST_VISITED: usize = 13;
 
 impl<'a> Searcher<'a> {
     /// Expands nodes, the first of the open list each time, until the search of the tree of all agents ends. Searches
-    /// for groups begin and end in between.
-    pub fn run<W: Watcher>(&mut self, watcher: &mut W) -> Result<Ended, OutOfMemory> {
+    /// for groups begin and end in between. None if it pauses before it ends, after so many splits: then another call
+    /// goes on.
+    pub fn run<W: Watcher>(
+        &mut self,
+        pause: u32,
+        watcher: &mut W,
+    ) -> Result<Option<Ended>, OutOfMemory> {
         // Each turn splits a node, raises its bound, lowers the number of its conflicts, or begins or ends the search
         // for a group, so the turns never run out.
         for _ in 0..u64::MAX {
+            if self.splits >= pause {
+                return Ok(None);
+            }
             let ended = match self.turn()? {
                 Step::Opened => continue,
                 Step::Split => {
@@ -48,10 +56,26 @@ impl<'a> Searcher<'a> {
             };
             match self.suspended.pop() {
                 Some(suspended) => self.resume(suspended, ended)?,
-                None => return Ok(ended),
+                None => return Ok(Some(ended)),
             }
         }
-        Ok(Ended::AtLimit(Cause::Splits(self.limit)))
+        Ok(Some(Ended::AtLimit(Cause::Splits(self.limit))))
+    }
+
+    /// Goes on until the search ends.
+    pub fn finish<W: Watcher>(&mut self, watcher: &mut W) -> Result<Ended, OutOfMemory> {
+        match self.run(u32::MAX, watcher)? {
+            Some(ended) => Ok(ended),
+            None => Ok(Ended::AtLimit(Cause::Splits(self.limit))),
+        }
+    }
+
+    /// Returns the bound of the tree of all agents.
+    pub fn bound(&self) -> u64 {
+        match self.suspended.first() {
+            Some(outermost) => outermost.tree().bound,
+            None => self.tree.bound,
+        }
     }
 
     // Tells the watcher how far the search of the tree of all agents is, after each 256 splits in any tree.

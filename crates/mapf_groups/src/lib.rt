@@ -20,7 +20,8 @@
 //! et al. 2012).
 //!
 //! What the nodes share is kept in one store (`mapf_nodes`). At the end a certificate of version 3 is drawn from the
-//! trees (`mapf_tree_lemmas`).
+//! trees (`mapf_tree_lemmas`). If a plan is known whose cost the search doesn't reach soon, prices are tried once
+//! (`mapf_prices`), and the greater bound counts.
 //!
 //! Nothing is promised of the answers: a checker that is proved judges the plan and the certificate. What is proved of
 //! the search is that it returns, within its ranges.
@@ -33,10 +34,12 @@ mod expand;
 mod group_search;
 mod joint_cells;
 mod outcome;
+mod priced;
 mod searcher;
 mod solver;
 mod split;
 mod visit;
 
 pub use outcome::Outcome;
+pub use priced::{Priced, bound_by_prices};
 pub use solver::{search, search_below};

@@ -5,10 +5,14 @@ ghost use Rattle.mapf_model.specs.Limits.{most_splits};
 use crate::begin::impossible;
 use crate::expand::Ended;
 use crate::outcome::Outcome;
+use crate::priced::{Priced, bound_by_prices};
 use crate::searcher::Searcher;
 use mapf_model::{Cause, OutOfMemory, Path, Plan, Problem, Unwatched, Watcher};
 use mapf_nodes::{Members, SearchTree};
 use std::alloc::Global;
+
+/// Prices are tried after so many splits, or at the limit if that comes first.
+const SPLITS_BEFORE_PRICES: u32 = 1000;
 
 /// Searches for an optimal plan, with at most `limit` splits: 0 to 100,000. A bypass is no split. Out of memory is the
 /// only error.
@@ -20,7 +24,7 @@ pub fn search(alloc: Global, problem: &Problem, limit: u32) -> Result<Outcome, O
 
 /// Searches as `search` does, but only for a plan with a sum of costs below this one, in ticks, and tells the watcher how
 /// far it is. Where no such plan is left, the search ends as at a limit, with this sum as the bound: a plan that has it
-/// is optimal.
+/// is optimal. Prices may show that, or a greater bound at the limit.
 pub fn search_below<W: Watcher>(
     alloc: Global,
     problem: &Problem,
@@ -40,8 +44,64 @@ pub fn search_below<W: Watcher>(
     if let Some(parts) = searcher.blocking()? {
         return Ok(Outcome::Impossible { parts });
     }
-    let ended = searcher.run(watcher)?;
-    end(&mut searcher, ended)
+    let Some(ended) = searcher.run(SPLITS_BEFORE_PRICES, watcher)? else {
+        return go_on(&mut searcher, watcher);
+    };
+    let priced = match &ended {
+        Ended::Plan(_) => None,
+        _ => by_prices(&searcher)?,
+    };
+    let outcome = end(&mut searcher, ended)?;
+    Ok(with_prices(outcome, priced))
+}
+
+// Goes on with a search that has paused, unless prices show that no cheaper plan is left.
+fn go_on<W: Watcher>(searcher: &mut Searcher, watcher: &mut W) -> Result<Outcome, OutOfMemory> {
+    let priced = by_prices(searcher)?;
+    let is_in_vain = match &priced {
+        Some(found) => found.bound >= searcher.below,
+        None => false,
+    };
+    let outcome = if is_in_vain {
+        Outcome::Limit {
+            cause: Cause::Splits(searcher.limit),
+            bound: 0,
+            parts: Vec::new(searcher.alloc),
+        }
+    } else {
+        let ended = searcher.finish(watcher)?;
+        end(searcher, ended)?
+    };
+    Ok(with_prices(outcome, priced))
+}
+
+// Returns the bound by prices, if a plan is known that costs more than the bound of the search.
+fn by_prices(searcher: &Searcher) -> Result<Option<Priced>, OutOfMemory> {
+    if searcher.below == u64::MAX || searcher.bound() >= searcher.below {
+        return Ok(None);
+    }
+    bound_by_prices(searcher.alloc, searcher.problem, searcher.below)
+}
+
+// Returns the outcome of a search, with the bound by prices if the search ended with a smaller one.
+fn with_prices(outcome: Outcome, priced: Option<Priced>) -> Outcome {
+    let Some(priced) = priced else {
+        return outcome;
+    };
+    let Priced {
+        bound: shown,
+        parts,
+    } = priced;
+    if let Outcome::Limit { cause, bound, .. } = &outcome {
+        if shown > *bound {
+            return Outcome::Limit {
+                cause: *cause,
+                bound: shown,
+                parts,
+            };
+        }
+    }
+    outcome
 }
 
 // Returns the tree of all agents without nodes.

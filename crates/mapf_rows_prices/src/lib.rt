@@ -1,0 +1,11 @@
+//! Is the bound by prices never above the cheapest plan, and does the checker accept the certificate that shows it?
+#![tactic(auto)]
+
+#[cfg(test)]
+mod comparing;
+#[cfg(test)]
+mod judging;
+#[cfg(test)]
+mod memory;
+#[cfg(test)]
+mod worked;
