@@ -1,5 +1,6 @@
 """Damages certificates of versions 1 and 2 in one way each, drawn by lot."""
 
+import functools
 import re
 
 from lemma_damage import at_lines, byte, by_one, claim, cut, double, drop, limit, near_number, with_number, word
@@ -85,6 +86,28 @@ def block_left_out(lines, draw):
     return [*lines[:node], one_fewer(lines[node]), *lines[node + 1:at], *lines[end:]]
 
 
+def entry_at_goal(goals, lines, draw):
+    """A block has one more entry, that its agent, at its goal, needs one tick more. It is sound only if the goal is
+    barred later."""
+    found = at_lines(lines, BLOCKS)
+    if not found:
+        return None
+    at = draw.choice(found)
+    _, agent, count = lines[at].split(b" ")
+    end = at + 1 + int(count)
+    tick = draw.randrange(state_of(lines[end - 1])[0] + 3)
+    entry = b"at %d,%d %d 1" % (*goals[int(agent)], tick)
+    entries = sorted([*lines[at + 1:end], entry], key=state_of)
+    return [*lines[:at], b"agent %b %d" % (agent, len(entries)), *entries, *lines[end:]]
+
+
+def state_of(entry):
+    """What the entries of a block rise by: the tick, the row and the column."""
+    _, cell, tick, _ = entry.split(b" ")
+    x, y = cell.split(b",")
+    return int(tick), int(y), int(x)
+
+
 def sides_exchanged(lines, draw):
     """The two children of a split are exchanged with all below them, and so are its agents and cells. The same holds
     then."""
@@ -159,12 +182,14 @@ DAMAGES = {
 }
 
 
-def damaged(text, draw):
-    """The kind of a damage, and the text with it, which differs from the one without it."""
+def damaged(text, goals, draw):
+    """The kind of a damage, and the text with it, which differs from the one without it. The goals are those of the
+    agents, each a column and a row."""
     lines = text.split(b"\n")[:-1]
+    damages = {**DAMAGES, "an entry at the goal": (functools.partial(entry_at_goal, goals), 3)}
     while True:
-        kind, = draw.choices(list(DAMAGES), [share for _, share in DAMAGES.values()])
-        changed = DAMAGES[kind][0](lines, draw)
+        kind, = draw.choices(list(damages), [share for _, share in damages.values()])
+        changed = damages[kind][0](lines, draw)
         if isinstance(changed, list):
             changed = b"".join(line + b"\n" for line in changed)
         if changed not in (None, text):
