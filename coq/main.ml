@@ -44,17 +44,14 @@ let read_certificate task file =
     | 0 -> reading
     | count ->
       let reading = take_bytes task reading (list_of part count) in
-      (match reading.its_state with Failed _ -> reading | _ -> go_on reading) in
+      if is_refused reading.its_state then reading else go_on reading in
   try go_on begin0 with Sys_error why -> fault why
 
 let judge map scen number plan cert =
   let file = opened cert in
   match prepare (whole map) (whole scen) number (whole plan) with
   | Bad why -> Bad why
-  | Good (task, verdict) ->
-    (match why_refused (read_certificate task file) with
-     | None -> Good verdict
-     | Some why -> Bad why)
+  | Good task -> conclude task (read_certificate task file)
 
 let () =
   Gc.set { (Gc.get ()) with Gc.minor_heap_size = 1 lsl 20; space_overhead = 300 };
