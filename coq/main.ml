@@ -53,14 +53,17 @@ let judge map scen number plan cert =
   | Bad why -> Bad why
   | Good task -> conclude task (read_certificate task file)
 
+(* Whether there may be so many agents. The checker counts them one by one, so a greater number isn't handed to it. *)
+let is_number_of_agents number = Array.mem number (Array.sub bytes 1 200)
+
 let () =
   Gc.set { (Gc.get ()) with Gc.minor_heap_size = 1 lsl 20; space_overhead = 300 };
   match Sys.argv with
   | [| _; map; scen; k; plan; cert |] ->
     (match read_number (list_of (Bytes.of_string k) (String.length k)) with
-     | None -> fault "mapf-recheck-coq: K isn't a number"
-     | Some number ->
+     | Some number when is_number_of_agents number ->
        let result = judge map scen number plan cert in
        print (result_text result);
-       exit (match result with Good _ -> 0 | Bad _ -> 1))
+       exit (match result with Good _ -> 0 | Bad _ -> 1)
+     | _ -> fault "mapf-recheck-coq: K isn't a number from 1 to 200")
   | _ -> fault "usage: mapf-recheck-coq MAP SCEN K PLAN CERT"
