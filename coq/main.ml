@@ -44,26 +44,26 @@ let read_certificate task file =
     | 0 -> reading
     | count ->
       let reading = take_bytes task reading (list_of part count) in
-      (match reading.its_state with Failed _ -> reading | _ -> go_on reading) in
+      if is_refused reading.its_state then reading else go_on reading in
   try go_on begin0 with Sys_error why -> fault why
 
 let judge map scen number plan cert =
   let file = opened cert in
   match prepare (whole map) (whole scen) number (whole plan) with
   | Bad why -> Bad why
-  | Good (task, verdict) ->
-    (match why_refused (read_certificate task file) with
-     | None -> Good verdict
-     | Some why -> Bad why)
+  | Good task -> conclude task (read_certificate task file)
+
+(* Whether there may be so many agents. The checker counts them one by one, so a greater number isn't handed to it. *)
+let is_number_of_agents number = Array.mem number (Array.sub bytes 1 200)
 
 let () =
   Gc.set { (Gc.get ()) with Gc.minor_heap_size = 1 lsl 20; space_overhead = 300 };
   match Sys.argv with
   | [| _; map; scen; k; plan; cert |] ->
     (match read_number (list_of (Bytes.of_string k) (String.length k)) with
-     | None -> fault "mapf-recheck-coq: K isn't a number"
-     | Some number ->
+     | Some number when is_number_of_agents number ->
        let result = judge map scen number plan cert in
        print (result_text result);
-       exit (match result with Good _ -> 0 | Bad _ -> 1))
+       exit (match result with Good _ -> 0 | Bad _ -> 1)
+     | _ -> fault "mapf-recheck-coq: K isn't a number from 1 to 200")
   | _ -> fault "usage: mapf-recheck-coq MAP SCEN K PLAN CERT"

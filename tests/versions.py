@@ -38,6 +38,29 @@ def in_version_one(certificate):
     return TITLE + BARE_SPLIT.sub(rb"\1", certificate.removeprefix(TITLE_TWO))
 
 
+def with_blocks_on_leaves(certificate):
+    """The text of version 2 with no block on a split: each leaf has the blocks that hold there. The text has to be of
+    the grammar."""
+    lines = iter(certificate.split(b"\n"))
+    given = [next(lines) for _ in range(3)]
+    due = [{}]              # Of each node to come, the blocks of agents from above.
+    while due:
+        blocks = dict(due.pop())
+        kind, *words = next(lines).split(b" ")
+        for _ in range(0 if kind == b"clash" else int(words.pop())):
+            block = [next(lines)]
+            _, agent, count = block[0].split(b" ")
+            blocks[int(agent)] = block + [next(lines) for _ in range(int(count))]
+        if kind == b"leaf":
+            given += [b"leaf %d" % len(blocks), *(line for agent in sorted(blocks) for line in blocks[agent])]
+        elif kind == b"clash":
+            given.append(b" ".join([kind, *words]))
+        else:
+            given.append(b" ".join([kind, *words, b"0"]))
+            due += [blocks, blocks]
+    return b"\n".join([*given, *lines])
+
+
 def in_version_three(certificate):
     """The text of version 2 with each block as a lemma of one agent, under the constraints of the agent at its node. A
     leaf uses of each agent the deepest. The text has to be of the grammar.
