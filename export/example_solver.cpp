@@ -143,7 +143,7 @@ std::optional<Split> first_conflict(const std::vector<Path>& paths) {
   return std::nullopt;
 }
 
-/// A node of the constraint tree. A child has the constraint that its parent's split adds.
+/// A node of the constraint tree, with the constraint that its parent's split adds.
 struct SearchNode {
   std::size_t parent = 0;
   std::optional<Constraint> constraint;
@@ -158,13 +158,12 @@ struct SearchNode {
 class Search {
  public:
   explicit Search(const Problem& problem) : problem_(problem) {}
-
   /// Searches for an optimal plan, and answers what the finished tree shows.
   Claim run(Number most_splits) {
     nodes_.emplace_back();
     if (!find_clash() && fill_root()) open_.push({0, 0});
     while (!open_.empty()) {
-      const std::size_t at = std::get<1>(open_.top());
+      const std::size_t at = open_.top().second;
       open_.pop();
       const std::optional<Split> conflict = first_conflict(nodes_[at].paths);
       if (!conflict) {
@@ -245,7 +244,7 @@ class Search {
     node.paths = nodes_[parent].paths;
     item(node.paths, agent) = *path;
     node.agent_cost = static_cast<Number>(path->size()) - 1;
-    for (const Path& other : node.paths) node.cost += static_cast<Number>(other.size()) - 1;
+    for (const Path& each : node.paths) node.cost += static_cast<Number>(each.size()) - 1;
     open_.push({-node.cost, at});
     return at;
   }
@@ -267,7 +266,7 @@ class Search {
 
   const Problem& problem_;
   std::vector<SearchNode> nodes_;
-  /// The open nodes, of which one of least cost comes first.
+  /// The open nodes. One of least cost is at the top.
   std::priority_queue<std::pair<Number, std::size_t>> open_;
   std::optional<Clash> clash_;
   std::size_t best_ = 0;

@@ -305,12 +305,16 @@ inline std::vector<Entry> labels_above(const Sizes& sizes, const std::vector<Lab
   return entries;
 }
 
-/// The label of a start at tick 0: that of its entry, or `otherwise`, which is its distance times the unit.
-inline Label start_label(const std::vector<Entry>& entries, Cell start, Label otherwise) {
-  for (const Entry& entry : entries) {
-    if (entry.tick == 0 && entry.cell == start) return entry.label;
-  }
-  return otherwise;
+/// The bound of a lemma of one agent with these entries, in parts of a tick of its list: the label of the start at tick
+/// 0, which is the default if it has no entry, plus the price of the start at tick 0. Of a block it is the start label.
+inline Label bound_of_one(const Sizes& sizes, const std::vector<Label>& distances, Cell start,
+                          const std::vector<Constraint>& constraints, const std::vector<Entry>& entries,
+                          const PriceList& list = {}) {
+  const detail::Surroundings map(sizes, distances);
+  const auto is_of_start = [&](const Entry& entry) { return entry.tick == 0 && entry.cell == start; };
+  const auto found = std::find_if(entries.begin(), entries.end(), is_of_start);
+  const Label otherwise = detail::Bars(constraints).otherwise(map.distance(start), 0, list.unit);
+  return (found == entries.end() ? otherwise : found->label) + detail::PriceTable(list).of_cell(start, 0);
 }
 
 /// A price in parts of a tick from the dual value of a linear program in ticks, rounded, and 0 if it isn't positive.
