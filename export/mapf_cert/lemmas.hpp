@@ -111,10 +111,10 @@ class LemmaWriter : private detail::Writer {
  public:
   /// Writes the first lines. Throws std::invalid_argument if a size, the claim or a count is out of range.
   LemmaWriter(std::ostream& out, const Sizes& sizes, const Claim& claim, Number lists, Number lemmas)
-      : Writer(out, sizes, claim, "mapf-cert 3"), lists_(lists), lemmas_(lemmas) {
+      : Writer(out, sizes), lists_(lists), lemmas_(lemmas) {
     detail::require_range("The number of price lists", lists, 0, most_items);
     detail::require_range("The number of lemmas", lemmas, 0, most_items);
-    detail::Lines lines;
+    detail::Lines lines = head("mapf-cert 3", claim);
     lines.add("prices", lists);
     if (lists == 0) lines.add("lemmas", lemmas);
     lines.write_to(out);

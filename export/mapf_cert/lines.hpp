@@ -138,19 +138,21 @@ class Writer {
   Writer& operator=(const Writer&) = delete;
 
  protected:
-  Writer(std::ostream& out, const Sizes& sizes, const Claim& claim, const char* head) : ranges_(sizes), out_(out) {
+  Writer(std::ostream& out, const Sizes& sizes) : ranges_(sizes), out_(out) {}
+
+  /// The first three lines.
+  Lines head(const char* version, const Claim& claim) const {
     Lines lines;
-    lines.add(head);
-    lines.add("agents", sizes.agents);
+    lines.add(version);
+    lines.add("agents", ranges_.agents());
     if (claim.kind == Claim::Kind::impossible) {
       lines.add("claim", "impossible");
     } else {
       require_range("The claimed number", claim.number, 0, most_cost);
       lines.add("claim", claim.kind == Claim::Kind::cost ? "cost" : "bound", claim.number);
     }
-    lines.write_to(out);
+    return lines;
   }
-
   static void require_due(bool is_due, const char* sentence) {
     if (!is_due) throw std::logic_error(sentence);
   }

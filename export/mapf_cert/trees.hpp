@@ -28,8 +28,9 @@ struct Block {
 class TreeWriter : private detail::Writer {
  public:
   /// Writes the first three lines. Throws std::invalid_argument if a size or the claim is out of range.
-  TreeWriter(std::ostream& out, const Sizes& sizes, const Claim& claim)
-      : Writer(out, sizes, claim, "mapf-cert 2") {}
+  TreeWriter(std::ostream& out, const Sizes& sizes, const Claim& claim) : Writer(out, sizes) {
+    head("mapf-cert 2", claim).write_to(out);
+  }
 
   /// Writes a split on a vertex or swapping conflict, with at most one block for each agent.
   void split(const Split& split, std::vector<Block> blocks = {}) {
