@@ -1,6 +1,7 @@
 // Trials of export/mapf_cert.hpp for tests/run_export. The first word of the call names the trial:
 //
 //   refusals            tries each refusal, and each bound of a range; a line for each, with a tab and what went wrong
+//   crossing CERT       the lines that the head of the header shows
 //   trees CERT          each kind of line of version 2, its parts in any order
 //   lemmas CERT         each kind of line of version 3, its parts in any order
 //   plans               each kind of plan text, to standard output
@@ -283,7 +284,8 @@ void try_lemmas() {
     return lemma_ending(0, 1, [&](LemmaWriter& writer) { writer.lemma(Never{0, 1, std::move(cells)}); });
   };
   tell("lemmas: no joint cells", never({}), "value: A lemma of joint cells has at least one pair of cells.");
-  try_range("lemmas: row of joint cells", "The row of a cell", 0, 3, [&](Number n) { return never({{corner, {0, n}}}); });
+  try_range("lemmas: row of joint cells", "The row of a cell", 0, 3,
+            [&](Number n) { return never({{corner, {0, n}}}); });
   const auto cases = [](const Cases& tried) {
     return lemma_ending(0, 1, [&](LemmaWriter& writer) { writer.lemma(tried); });
   };
@@ -449,6 +451,15 @@ void try_labels() {
   price(1e30, 1, 9'999'999);
 }
 
+void write_crossing(const std::string& name) {
+  auto out = opened(name);
+  TreeWriter writer(out, Sizes{3, 3, 2}, Claim::cost(5));
+  writer.split(Split::vertex(0, 1, Cell{1, 1}, 1));
+  writer.leaf({Block{0, {Entry{{0, 1}, 0, 3}}}});
+  writer.leaf({Block{1, {Entry{{1, 0}, 0, 3}}}});
+  writer.end();
+}
+
 void write_trees(const std::string& name) {
   auto out = opened(name);
   const Entry barred{{0, 0}, 0, Label::infinite()};
@@ -465,7 +476,8 @@ void write_lemmas(const std::string& name) {
   auto out = opened(name);
   LemmaWriter writer(out, {5, 3, 4}, Claim::impossible(), 2, 6);
   const Cell a{0, 2}, b{1, 2}, c{2, 2}, d{3, 2}, e{4, 2};
-  writer.list({2, {{c, b, 1, 1}, {a, std::nullopt, 2, 0}, {a, b, 3, 2}, {d, c, 1, 9'999'999}, {b, std::nullopt, 1, 3}}});
+  writer.list(
+      {2, {{c, b, 1, 1}, {a, std::nullopt, 2, 0}, {a, b, 3, 2}, {d, c, 1, 9'999'999}, {b, std::nullopt, 1, 3}}});
   writer.list({});
   const Cell f{0, 0}, g{1, 0}, h{2, 0};
   const Number never = writer.lemma(Never{0, 1, {{g, h}, {f, h}, {f, g}, {g, h}}});
@@ -576,6 +588,8 @@ int main(int count, char** words) {
                              try_leaves, try_order_of_lemmas, try_plans, try_streams, try_labels}) {
       each();
     }
+  } else if (trial == "crossing") {
+    write_crossing(given.at(1));
   } else if (trial == "trees") {
     write_trees(given.at(1));
   } else if (trial == "lemmas") {
