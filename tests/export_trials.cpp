@@ -435,6 +435,12 @@ void try_labels() {
        "value: The agent can go on after its constraints, so no entries show that its cost is infinite.");
   tell("labels: a goal that is never free", of_cost({Constraint::clear(0, goal, 3)}, Label::infinite()),
        "value: The agent can go on after its constraints, so no entries show that its cost is infinite.");
+  try_range("labels: column of the start", "The column of a cell", 0, 2, [&](Number n) {
+    return ending([&](std::ostringstream&, std::string&) { exact_labels(strip, steps, {n, 0}, {}); });
+  });
+  try_range("labels: row of the goal", "The row of a cell", 0, 3, [&](Number n) {
+    return ending([&](std::ostringstream&, std::string&) { distances(sizes, {0, n}, [](Cell) { return true; }); });
+  });
   tell("labels: too few distances", ending([&](std::ostringstream&, std::string&) {
          exact_labels(sizes, steps, start, {});
        }), "value: The distances aren't as many as the cells.");

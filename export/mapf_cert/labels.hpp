@@ -29,8 +29,9 @@ namespace detail {
 /// The map as the distances to a goal show it. A cell without a distance is blocked, or can't be on a path to the goal.
 class Surroundings {
  public:
-  Surroundings(const Sizes& sizes, const std::vector<Label>& distances) : sizes_(sizes), distances_(distances) {
-    const Ranges ranges(sizes);
+  Surroundings(const Sizes& sizes, const std::vector<Label>& distances, Cell start = {})
+      : sizes_(sizes), distances_(distances) {
+    Ranges(sizes).cell(start);
     require(count_of(distances.size()) == sizes.width * sizes.height, "The distances aren't as many as the cells.");
   }
   std::size_t number(Cell cell) const { return static_cast<std::size_t>(cell.y * sizes_.width + cell.x); }
@@ -193,7 +194,7 @@ std::vector<Label> distances(const Sizes& sizes, Cell goal, IsFree is_free) {
 /// after the last tick of its constraints, since then no entries of finitely many ticks show it.
 inline std::vector<Entry> labels_of_cost(const Sizes& sizes, const std::vector<Label>& distances, Cell start,
                                          const std::vector<Constraint>& constraints, Label cost) {
-  const detail::Surroundings map(sizes, distances);
+  const detail::Surroundings map(sizes, distances, start);
   const detail::Bars bars(constraints);
   const auto remaining = [&](Tick tick) {
     return cost.is_infinite() ? cost : Label(std::max<Number>(cost.number() - tick, 0));
@@ -237,7 +238,7 @@ inline std::vector<Entry> labels_of_cost(const Sizes& sizes, const std::vector<L
 inline std::vector<Entry> exact_labels(const Sizes& sizes, const std::vector<Label>& distances, Cell start,
                                        const std::vector<Constraint>& constraints, const PriceList& list = {},
                                        std::optional<Tick> horizon = std::nullopt) {
-  const detail::Surroundings map(sizes, distances);
+  const detail::Surroundings map(sizes, distances, start);
   const detail::Bars bars(constraints);
   const detail::PriceTable prices(list);
   const Tick last = horizon.value_or(std::max(bars.last(), prices.last()));
@@ -310,7 +311,7 @@ inline std::vector<Entry> labels_above(const Sizes& sizes, const std::vector<Lab
 inline Label bound_of_one(const Sizes& sizes, const std::vector<Label>& distances, Cell start,
                           const std::vector<Constraint>& constraints, const std::vector<Entry>& entries,
                           const PriceList& list = {}) {
-  const detail::Surroundings map(sizes, distances);
+  const detail::Surroundings map(sizes, distances, start);
   const auto is_of_start = [&](const Entry& entry) { return entry.tick == 0 && entry.cell == start; };
   const auto found = std::find_if(entries.begin(), entries.end(), is_of_start);
   const Label otherwise = detail::Bars(constraints).otherwise(map.distance(start), 0, list.unit);

@@ -87,7 +87,6 @@ struct Entry {
   Label label;
 };
 
-
 /// A split of a tree. Each factory says what its two children add.
 struct Split {
   enum class Kind { vertex, swap, cost, costs };
