@@ -295,6 +295,6 @@ int main(int count, char** words) {
     return 0;
   } catch (const std::exception& error) {
     std::cerr << "example_solver: " << error.what() << "\n";
-    return 2;
   }
+  return 2;
 }
