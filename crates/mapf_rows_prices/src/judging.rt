@@ -17,10 +17,10 @@ pub struct Known {
 
 /// Returns what is known by a plan. None if it has another number of paths than the problem has agents.
 pub fn known_by(alloc: Global, problem: &Problem, plan: Plan) -> Result<Option<Known>, Fail> {
-    let cost = check_plan(problem, &plan)?;
     if plan.paths().len() != problem.agents().len() {
         return Ok(None);
     }
+    let cost = check_plan(problem, &plan)?;
     let text = PlanText {
         version: Version::Two,
         agents: problem.agents().len() as u32,
