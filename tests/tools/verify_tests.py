@@ -20,9 +20,16 @@ CROSSING_MAP = "type octile\nheight 3\nwidth 3\nmap\n...\n...\n...\n"
 CROSSING_SCEN = "version 1\n0 c.map 3 3 0 1 2 1 2\n0 c.map 3 3 1 0 1 2 2\n"
 
 # A third agent goes against the first. One of these two has to go round, by two steps more, and of the other one and
-# the second agent one has to wait, so that the least sum is 9. Each two of the three show less: a search that may not
-# split ends with the bound 8.
+# the second agent one has to wait, so that the least sum is 9. Each two of the three show less: without prices a search
+# that may not split ends with the bound 8.
 THREE_SCEN = CROSSING_SCEN + "0 c.map 3 3 2 1 0 1 2\n"
+
+# Below the three, behind a wall, a fourth agent goes along a corridor that is so long that `cbsh` tries no prices, which
+# would show the 9.
+LONG = 600
+FOUR_MAP = ("type octile\nheight 5\nwidth %d\nmap\n" % LONG + ("..." + "@" * (LONG - 3) + "\n") * 3
+            + "@" * LONG + "\n" + "." * LONG + "\n")
+FOUR_SCEN = (THREE_SCEN + f"0 c.map 3 3 0 4 {LONG - 1} 4 {LONG - 1}\n").replace("c.map 3 3", f"c.map {LONG} 5")
 
 # Beside the two, behind a wall, two agents that have a way round each other of the same cost. The least sum is 9, and
 # plain search, if it may split once, on the first two, ends with the bound 9.
@@ -49,6 +56,11 @@ ROOMS = {"grid": ROOMS_MAP, "scenario": ROOMS_SCEN, "agents": "4"}
 # A cheapest answer of the three, and what a call of it has besides.
 BEST_OF_THREE = PATHS["cheapest"] + "Agent 2: (1,2)->(0,2)->(0,1)->(0,0)->(1,0)->\n"
 THREE = {"scenario": THREE_SCEN, "agents": "3"}
+
+# Those of the three and of the fourth.
+BEST_OF_FOUR = BEST_OF_THREE + f"Agent 3: {''.join(f'(4,{column})->' for column in range(LONG))}\n"
+FOUR = {"grid": FOUR_MAP, "scenario": FOUR_SCEN, "agents": "4"}
+WITHIN = f"within {8 + LONG - 1}..{9 + LONG - 1}, a certificate of {8 + LONG - 1} is in CERT"
 
 LACAM_HEAD = """agents=2
 map_file=c.map
@@ -388,9 +400,8 @@ def by_bound():
     """
     apart = "Agent 0: (0,4)->(0,5)->(1,5)->\n"
     return [
-        Asked("verify, a limit of no splits", BEST_OF_THREE, 4,
-              "within 8..9, a certificate of 8 is in CERT (limit of 0 splits)\n", more=["--limit", "0"],
-              noted="prints 'within 8 9': ", **THREE),
+        Asked("verify, a limit of no splits", BEST_OF_FOUR, 4, f"{WITHIN} (limit of 0 splits)\n",
+              more=["--limit", "0"], noted=f"prints 'within {8 + LONG - 1} {9 + LONG - 1}': ", **FOUR),
         Asked("verify, a limit of no splits and a bound that is the cost", PATHS["cheapest"], 0, "cheapest: 5\n",
               more=["--limit", "0"]),
         Asked("verify, a search beyond that bound", BEST_OF_THREE, 0, "cheapest: 9\n", **THREE),
@@ -432,9 +443,8 @@ def by_options():
         Asked("verify, a status of its own, not cheapest", PATHS["dearer"], 1, ANSWERED["dearer"][1],
               more=["--distinct-status"]),
         Asked("verify, time enough", PATHS["dearer"], 1, ANSWERED["dearer"][1], more=["--seconds", "60"]),
-        Asked("verify, time enough, and a limit of no splits", BEST_OF_THREE, 4,
-              "within 8..9, a certificate of 8 is in CERT (limit of 0 splits)\n",
-              more=["--limit", "0", "--seconds", "60"], **THREE),
+        Asked("verify, time enough, and a limit of no splits", BEST_OF_FOUR, 4, f"{WITHIN} (limit of 0 splits)\n",
+              more=["--limit", "0", "--seconds", "60"], **FOUR),
     ]
 
 
@@ -456,9 +466,9 @@ def in_time():
          Asked("", WAITS, 4, "unknown: 10 (limit of 0.5 seconds)\n", more=["--seconds", "0.5"],
                noted="one leaf doesn't show that it is cheapest", **ROOMS)),
         ("time for a search of no splits", HANGS_LATER,
-         Asked("", BEST_OF_THREE, 4, "within 8..9, a certificate of 8 is in CERT (limit of 5 seconds)\n",
-               noted="mapf solve --search cbsh problem.map problem.scen 3 0 found.txt cert.txt",
-               more=["--seconds", "5"], **THREE)),
+         Asked("", BEST_OF_FOUR, 4, f"{WITHIN} (limit of 5 seconds)\n",
+               noted="mapf solve --search cbsh problem.map problem.scen 4 0 found.txt cert.txt",
+               more=["--seconds", "5"], **FOUR)),
     ]
 
 
