@@ -6,6 +6,6 @@ mod comparing;
 #[cfg(test)]
 mod judging;
 #[cfg(test)]
-mod memory;
+mod repeating;
 #[cfg(test)]
 mod worked;

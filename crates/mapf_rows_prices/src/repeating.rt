@@ -1,12 +1,10 @@
-//! Prices whose requests for memory `tests/run_memory_in_crates` refuses in turn: the call says that memory ran out, and
-//! gives no other answer in place of its own. So two calls give the same bytes.
+//! Two calls give the same bytes.
 use crate::judging::bound_text;
 use mapf_rows_made::{Shape, drawn};
 use std::alloc::Global;
 use std::process::Abort;
 use std::test::Fail;
 
-// A call during which a request may be refused has the answer of a call after it.
 fn assert_repeated(rt: &impl Abort, alloc: Global, seed: u64) -> Result<(), Fail> {
     let shape = Shape {
         width: 5,
@@ -24,7 +22,7 @@ fn assert_repeated(rt: &impl Abort, alloc: Global, seed: u64) -> Result<(), Fail
 }
 
 #[test]
-fn answers_or_wants_for_memory(rt: HostRuntime) -> Result<(), Fail> {
+fn gives_the_same_bytes_twice(rt: HostRuntime) -> Result<(), Fail> {
     for seed in 2..4 {
         assert_repeated(&rt, rt.alloc(), seed)?;
     }
