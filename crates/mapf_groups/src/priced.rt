@@ -2,7 +2,7 @@
 use mapf_lemma_texts::{OneLemma, Part, TwoLemma};
 use mapf_lemmas::{Group, LeafUses, PriceList, Use};
 use mapf_model::{OutOfMemory, Problem};
-use mapf_prices::{PriceBound, PricedLemma, price_bound};
+use mapf_prices::{Known, PriceBound, PricedLemma, price_bound};
 use std::alloc::Global;
 
 /// A bound by prices, in ticks, and the parts that show it.
@@ -12,13 +12,15 @@ pub struct Priced {
     pub parts: Vec<Part>,
 }
 
-/// Finds prices, where a plan of this cost is known, in ticks. None if they aren't tried.
+/// Finds prices, where a bound and the cost of a plan are known, in ticks. None if they aren't tried, or show far less
+/// than the known bound.
 pub fn bound_by_prices(
     alloc: Global,
     problem: &Problem,
+    bound: u64,
     cost: u64,
 ) -> Result<Option<Priced>, OutOfMemory> {
-    let Some(found) = price_bound(alloc, problem, cost)? else {
+    let Some(found) = price_bound(alloc, problem, Known { bound, cost })? else {
         return Ok(None);
     };
     let PriceBound {

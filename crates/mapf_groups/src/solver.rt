@@ -77,10 +77,11 @@ fn go_on<W: Watcher>(searcher: &mut Searcher, watcher: &mut W) -> Result<Outcome
 
 // Returns the bound by prices, if a plan is known that costs more than the bound of the search.
 fn by_prices(searcher: &Searcher) -> Result<Option<Priced>, OutOfMemory> {
-    if searcher.below == u64::MAX || searcher.bound() >= searcher.below {
+    let bound = searcher.bound();
+    if searcher.below == u64::MAX || bound >= searcher.below {
         return Ok(None);
     }
-    bound_by_prices(searcher.alloc, searcher.problem, searcher.below)
+    bound_by_prices(searcher.alloc, searcher.problem, bound, searcher.below)
 }
 
 // Returns the outcome of a search, with the bound by prices if the search ended with a smaller one.

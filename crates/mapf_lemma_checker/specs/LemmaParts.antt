@@ -11,6 +11,7 @@ use Rattle.mapf_lemma_texts.specs.declared.part.Part.{Part}
 use Rattle.mapf_lemma_texts.specs.declared.sizes.LineSizes.{LineSizes}
 use Rattle.mapf_lemma_texts.specs.PartValues.{OneValue, TwoValue, NeverValue}
 use Rattle.mapf_lemma_texts.specs.Parts.{IsPart}
+use Rattle.mapf_lemma_texts.specs.Ranges.{greatest_price}
 use Rattle.mapf_model.specs.declared.label.Label.{Label}
 use Rattle.mapf_model.specs.declared.label.Label.TheVariants.{Never}
 use Rattle.mapf_model.specs.Plan.{Instance}
@@ -84,9 +85,9 @@ HasNoStatement problem list lemma number =
     (lists : List PriceList) (known : List Statement) (statement : Statement) → IsListOf lists number list →
     LemmaShows problem lists known lemma statement → ⊥
 
--- a cell costs at most 9,999,999 at each tick
+-- a cell costs at most the greatest price at each tick
 abbrev pub AreCellPricesSmall : PriceList → Type 0
-AreCellPricesSmall list = (cell tick : ℕ) → cell_price list.prices cell tick ≤ 9999999
+AreCellPricesSmall list = (cell tick : ℕ) → cell_price list.prices cell tick ≤ greatest_price
 
 -- the bound of a lemma with the list of this number, or without one, is small if it is finite
 abbrev pub IsSmallBound : Option ℕ → Label → Type 0

@@ -4,6 +4,7 @@ ghost use Rattle.std.specs.Prelude.{◌≡◌, ◌≤◌};
 ghost use Rattle.mapf_fields.specs.Numbers.{Gives, below};
 ghost use Rattle.mapf_lemma_texts.specs.LineParts.{read_star, read_amount, judge_amount, read_list_number};
 ghost use Rattle.mapf_lemma_texts.specs.LineParts.{judge_list_number};
+ghost use Rattle.mapf_lemma_texts.specs.Ranges.{greatest_label};
 
 use mapf_fields::{LineFault, last, strip, within};
 use mapf_lemmas::Amount;
@@ -30,7 +31,7 @@ pub fn amount_word(rest: &[u8]) -> Result<AmountWord, LineFault>
 /// Returns the amount that was read, if it is infinite or has 1 to `most` units.
 #[inline(always)]
 pub fn amount_to(most: u64, word: &AmountWord) -> Result<Amount, LineFault>
-    requires { most ≤ 9999999999 }
+    requires { most ≤ greatest_label }
     ensures { result ≡ judge_amount most word.now }
 {
     match *word {

@@ -22,6 +22,26 @@ const PAIRED_THETA: i64 = 512;
 // After so many rounds without a better bound, theta falls to two thirds, and the ascent goes on from the best prices.
 const PATIENCE: u32 = 15;
 
+/// What is known of the least sum of costs, in ticks.
+#[derive(Clone, Copy, Debug)]
+pub struct Known {
+    /// A bound of it.
+    pub bound: u64,
+    /// The cost of a plan.
+    pub cost: u64,
+}
+
+/// How the rounds of an ascent ended.
+#[derive(Clone, Copy, Debug, PartialEq, Eq)]
+pub enum Ended {
+    /// The bound shows that the known plan is optimal.
+    Optimal,
+    /// It will hardly reach the known bound.
+    Behind,
+    /// All rounds were made.
+    AfterAll,
+}
+
 /// The price of a resource by its number, in units.
 #[derive(Clone, Copy, Debug, PartialEq, Eq, PartialOrd, Ord)]
 pub struct Priced {
@@ -48,7 +68,10 @@ pub struct Ascent<'a> {
     /// The greatest bound so far, in units.
     pub bound: u64,
     pub best: Vec<Priced>,
-    // The cost of a plan that is known, in units.
+    // The bound without prices, in units.
+    unpriced: u64,
+    // The known bound, in units, and the cost of the known plan.
+    known: u64,
     target: u64,
     theta: i64,
     idle: u32,
@@ -61,13 +84,13 @@ pub struct Ascent<'a> {
 }
 
 impl<'a> Ascent<'a> {
-    /// Returns the ascent before its first round. A plan of this cost is known, in ticks.
+    /// Returns the ascent before its first round.
     pub fn of(
         alloc: Global,
         problem: &'a Problem,
         distances: &'a [Distances],
         prices: Prices,
-        cost: u64,
+        known: Known,
     ) -> Result<Ascent<'a>, OutOfMemory> {
         let paths = Paths::of(alloc, problem, distances, &prices)?;
         let count = prices.resources.count();
@@ -87,7 +110,9 @@ impl<'a> Ascent<'a> {
             is_contested,
             bound: 0,
             best: Vec::new(alloc),
-            target: cost.saturating_mul(unit),
+            unpriced: 0,
+            known: known.bound.saturating_mul(unit),
+            target: known.cost.saturating_mul(unit),
             theta: FIRST_THETA,
             idle: 0,
             shares,
@@ -97,14 +122,18 @@ impl<'a> Ascent<'a> {
         })
     }
 
-    /// Makes rounds, at most so many. Stops when the bound shows that the known plan is optimal. Returns whether it does.
-    pub fn run(&mut self, rounds: u32) -> Result<bool, OutOfMemory> {
+    /// Makes rounds, at most so many. Stops when the bound shows that the known plan is optimal, or if it stays far behind
+    /// the known bound.
+    pub fn run(&mut self, rounds: u32) -> Result<Ended, OutOfMemory> {
         let unit = u64::from(self.prices.unit);
         for round in 0..rounds {
             let sum = self.improve()?;
             self.judge(sum.saturating_sub(self.prices.total))?;
             if self.bound.saturating_add(unit) > self.target {
-                return Ok(true);
+                return Ok(Ended::Optimal);
+            }
+            if !self.is_paired && round == rounds / 4 && self.is_behind() {
+                return Ok(Ended::Behind);
             }
             if !self.is_paired && round > rounds / 2 {
                 self.shares.note(&self.prices, &self.paths)?;
@@ -114,7 +143,15 @@ impl<'a> Ascent<'a> {
                 break;
             }
         }
-        Ok(false)
+        Ok(Ended::AfterAll)
+    }
+
+    // Returns whether prices raised the bound by less than two thirds of what the known one needs: the rounds after the
+    // first quarter seldom add more than half of what these did.
+    fn is_behind(&self) -> bool {
+        let risen = self.bound.saturating_sub(self.unpriced);
+        let needed = self.known.saturating_sub(self.unpriced);
+        risen.saturating_mul(3) < needed.saturating_mul(2)
     }
 
     /// Goes on with mates, from the best prices.
@@ -162,6 +199,9 @@ impl<'a> Ascent<'a> {
 
     // Keeps the prices if their bound is the greatest, and goes back to the best ones if none was for long.
     fn judge(&mut self, bound: u64) -> Result<(), OutOfMemory> {
+        if self.contested.is_empty() {
+            self.unpriced = bound;
+        }
         if bound > self.bound {
             self.bound = bound;
             self.idle = 0;

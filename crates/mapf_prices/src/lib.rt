@@ -24,4 +24,5 @@ mod resources;
 mod rounded;
 mod search;
 
+pub use ascent::Known;
 pub use rounded::{PriceBound, PricedLemma, price_bound};

@@ -1,5 +1,5 @@
 //! The bound of the best prices, in a unit as coarse as it can be, with what shows it.
-use crate::ascent::Ascent;
+use crate::ascent::{Ascent, Ended, Known};
 use crate::labels::{entries, joint_entries, table_entries};
 use crate::prices::{Prices, UNIT};
 use crate::resources::Resources;
@@ -51,13 +51,13 @@ pub enum PricedLemma {
     },
 }
 
-/// Finds prices in a number of rounds that falls with the number of agents. A plan of this cost is known, in ticks.
-/// Returns their bound on the sum of costs. None if the grid is too large for prices, or no steps lead an agent to its
-/// goal. Out of memory is the only error.
+/// Finds prices in a number of rounds that falls with the number of agents. Returns their bound on the sum of costs. None
+/// if the grid is too large for prices, no steps lead an agent to its goal, or after a quarter of the rounds prices are
+/// far behind the known bound. Out of memory is the only error.
 pub fn price_bound(
     alloc: Global,
     problem: &Problem,
-    cost: u64,
+    known: Known,
 ) -> Result<Option<PriceBound>, OutOfMemory> {
     let distances = goal_tables(alloc, problem)?;
     let Some(ticks) = horizon(problem, &distances) else {
@@ -71,10 +71,14 @@ pub fn price_bound(
     let rounds = rounds_of(SINGLE_SEARCHES, agents, MOST_ROUNDS);
     let paired = rounds_of(PAIR_SEARCHES.saturating_mul(2), agents, MOST_PAIRED_ROUNDS);
     let prices = Prices::of(alloc, resources)?;
-    let mut ascent = Ascent::of(alloc, problem, &distances, prices, cost)?;
-    if !ascent.run(rounds)? {
-        ascent.pair()?;
-        let _is_shown = ascent.run(paired)?;
+    let mut ascent = Ascent::of(alloc, problem, &distances, prices, known)?;
+    match ascent.run(rounds)? {
+        Ended::Optimal => {}
+        Ended::Behind => return Ok(None),
+        Ended::AfterAll => {
+            ascent.pair()?;
+            let _ended = ascent.run(paired)?;
+        }
     }
     let wanted = ascent.bound.div_ceil(u64::from(UNIT));
     for coarser in COARSER {

@@ -51,7 +51,7 @@ pub fn judged_bound(
     let Some(known) = known_by(alloc, problem, plan)? else {
         return Ok(None);
     };
-    let Some(found) = bound_by_prices(alloc, problem, known.cost)? else {
+    let Some(found) = bound_by_prices(alloc, problem, 0, known.cost)? else {
         return Ok(None);
     };
     assert_shown(rt, alloc, problem, &known, &found)?;
@@ -82,9 +82,14 @@ pub fn assert_shown(
     Ok(())
 }
 
+/// Returns whether there is a bound by prices, where this bound and the cost of a plan are known.
+pub fn is_given(alloc: Global, problem: &Problem, bound: u64, cost: u64) -> Result<bool, Fail> {
+    Ok(bound_by_prices(alloc, problem, bound, cost)?.is_some())
+}
+
 /// The text of the certificate that shows the bound by prices, where a plan of this cost is known.
 pub fn bound_text(alloc: Global, problem: &Problem, cost: u64) -> Result<Vec<u8>, Fail> {
-    match bound_by_prices(alloc, problem, cost)? {
+    match bound_by_prices(alloc, problem, 0, cost)? {
         Some(found) => {
             let claim = Claim::Bound(found.bound);
             Ok(cert_text(alloc, problem, claim, &found.parts)?)

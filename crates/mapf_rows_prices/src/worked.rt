@@ -1,5 +1,5 @@
 //! Problems whose bound by prices follows from the rules.
-use crate::judging::{bound_text, judged_bound};
+use crate::judging::{bound_text, is_given, judged_bound};
 use mapf_cbs::{Answer, solve};
 use mapf_model::Problem;
 use mapf_rows_made::{late_meeting, problem_of};
@@ -25,6 +25,17 @@ fn one_price_shows_that_one_of_two_waits(rt: HostRuntime) -> Result<(), Fail> {
     let rows = "@@.@@ @@.@@ ..... @@.@@ @@.@@";
     let problem = problem_of(rt.alloc(), rows, &[(10, 14), (2, 22)])?;
     expect_optimal(&rt, rt.alloc(), &problem, 4 + 4 + 1)
+}
+
+// The same crossing. Prices raise the bound by one tick: enough where one is known that is a tick higher, and where it is
+// two ticks higher less than two thirds of what it needs.
+#[test]
+fn gives_up_prices_that_stay_far_behind_a_known_bound(rt: HostRuntime) -> Result<(), Fail> {
+    let rows = "@@.@@ @@.@@ ..... @@.@@ @@.@@";
+    let problem = problem_of(rt.alloc(), rows, &[(10, 14), (2, 22)])?;
+    assert!(rt; is_given(rt.alloc(), &problem, 4 + 4 + 1, 11)?);
+    assert!(rt; !is_given(rt.alloc(), &problem, 4 + 4 + 2, 11)?);
+    Ok(())
 }
 
 // The same crossing twice. Their prices add up.
