@@ -4,6 +4,7 @@
 ghost use Rattle.mapf_words.specs.Jobs.{IsInRange};
 
 mod files;
+mod in_words;
 mod outputs;
 mod progress;
 mod words;
@@ -30,7 +31,11 @@ fn run(rt: &HostRuntime, job: &Job) -> ExitCode
     requires { IsInRange job.now }
 {
     match job {
-        Job::Demo => words::told(rt, &run_demo(rt.alloc(), &mut WriteSink::of(rt.stdout()))),
+        Job::Demo => words::ended(
+            rt,
+            job,
+            &run_demo(rt.alloc(), &mut WriteSink::of(rt.stdout())),
+        ),
         Job::Solve {
             map,
             scen,
@@ -40,6 +45,7 @@ fn run(rt: &HostRuntime, job: &Job) -> ExitCode
             cert,
         } => words::solved(
             rt,
+            job,
             files::solve(
                 rt,
                 ProblemFiles { map, scen, k: *k },
@@ -63,6 +69,7 @@ fn run(rt: &HostRuntime, job: &Job) -> ExitCode
             cert,
         } => words::solved(
             rt,
+            job,
             files::solve(
                 rt,
                 ProblemFiles { map, scen, k: *k },
@@ -83,10 +90,12 @@ fn run(rt: &HostRuntime, job: &Job) -> ExitCode
             cert,
         } => words::checked(
             rt,
+            job,
             &files::check(rt, ProblemFiles { map, scen, k: *k }, plan, cert),
         ),
-        Job::Play { map, scen, k, plan } => words::told(
+        Job::Play { map, scen, k, plan } => words::ended(
             rt,
+            job,
             &files::play(rt, ProblemFiles { map, scen, k: *k }, plan),
         ),
         Job::Dispatch {
@@ -95,9 +104,11 @@ fn run(rt: &HostRuntime, job: &Job) -> ExitCode
             k,
             plan,
             events,
-        } => words::told(
+        } => words::ended(
             rt,
+            job,
             &files::dispatch(rt, ProblemFiles { map, scen, k: *k }, plan, events),
         ),
+        Job::Explain { line } => words::explained(rt, line),
     }
 }

@@ -1,6 +1,8 @@
 //! What `main` takes from the command line, and what it prints when a job is done or refused, with the exit status.
+use crate::in_words::tell_in_words;
 use crate::outputs::{OneFile, Unsolved};
-use mapf_app::{Answered, Fault, Verdict, tell_check, tell_run, tell_solve_by};
+use mapf_app::{Answered, Fault, Job, Verdict, tell_check, tell_run, tell_solve_by};
+use mapf_explain::explain;
 use mapf_model::{WriteSink, write_all};
 use std::process::ExitCode;
 use std::rt::Env;
@@ -21,6 +23,20 @@ pub fn shown(rt: &HostRuntime, text: &str) -> ExitCode {
     match write_all(&mut out, text.as_bytes()) {
         Ok(()) => ExitCode::from(0),
         Err(_) => ExitCode::from(2),
+    }
+}
+
+/// Prints what a line of the program means, or that there is no such line.
+pub fn explained(rt: &HostRuntime, line: &str) -> ExitCode {
+    let Ok(words) = explain(rt.alloc(), line) else {
+        return no_memory(rt);
+    };
+    let Some(words) = words else {
+        return refused(rt, "error: mapf prints no such line\n");
+    };
+    match format!(in rt.alloc(); "{words}\n") {
+        Ok(text) => shown(rt, text.as_str()),
+        Err(_) => no_memory(rt),
     }
 }
 
@@ -57,21 +73,34 @@ pub fn no_memory(rt: &HostRuntime) -> ExitCode {
     told(rt, &Err(Fault::F6))
 }
 
-/// Reports how a run ended that writes its own output.
-pub fn told(rt: &HostRuntime, answer: &Result<(), Fault>) -> ExitCode {
+// Reports how a run ended, by the line for it.
+fn told(rt: &HostRuntime, answer: &Result<(), Fault>) -> ExitCode {
     let mut err = WriteSink::of(rt.stderr());
     ExitCode::from(tell_run(answer, &mut err))
 }
 
+/// Reports how a run ended that writes its own output.
+pub fn ended(rt: &HostRuntime, job: &Job, answer: &Result<(), Fault>) -> ExitCode {
+    let status = told(rt, answer);
+    if let Err(fault) = answer {
+        tell_in_words(rt, job, fault);
+    }
+    status
+}
+
 /// Reports the verdict, or the error.
-pub fn checked(rt: &HostRuntime, answer: &Result<Verdict, Fault>) -> ExitCode {
+pub fn checked(rt: &HostRuntime, job: &Job, answer: &Result<Verdict, Fault>) -> ExitCode {
     let mut out = WriteSink::of(rt.stdout());
     let mut err = WriteSink::of(rt.stderr());
-    ExitCode::from(tell_check(answer, &mut out, &mut err))
+    let status = tell_check(answer, &mut out, &mut err);
+    if let Err(fault) = answer {
+        tell_in_words(rt, job, fault);
+    }
+    ExitCode::from(status)
 }
 
 /// Reports the answer, or why there is none.
-pub fn solved(rt: &HostRuntime, answer: Result<Answered, Unsolved<'_>>) -> ExitCode {
+pub fn solved(rt: &HostRuntime, job: &Job, answer: Result<Answered, Unsolved<'_>>) -> ExitCode {
     let answer = match answer {
         Ok(answer) => Ok(answer),
         Err(Unsolved::Fault(fault)) => Err(fault),
@@ -79,5 +108,9 @@ pub fn solved(rt: &HostRuntime, answer: Result<Answered, Unsolved<'_>>) -> ExitC
     };
     let mut out = WriteSink::of(rt.stdout());
     let mut err = WriteSink::of(rt.stderr());
-    ExitCode::from(tell_solve_by(&answer, &mut out, &mut err))
+    let status = tell_solve_by(&answer, &mut out, &mut err);
+    if let Err(fault) = &answer {
+        tell_in_words(rt, job, fault);
+    }
+    ExitCode::from(status)
 }

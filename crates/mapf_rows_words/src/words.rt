@@ -80,6 +80,12 @@ fn dispatch(alloc: Global) -> Result<Job, AllocError> {
     })
 }
 
+fn explain(alloc: Global) -> Result<Job, AllocError> {
+    Ok(Job::Explain {
+        line: owned(alloc, "F6")?,
+    })
+}
+
 // Whether no words at all ask for the demo.
 fn is_demo_without_words(alloc: Global) -> bool {
     job_of(alloc, Vec::new(alloc)) == Ok(Job::Demo)
@@ -92,6 +98,7 @@ fn reads_jobs(rt: HostRuntime) -> Result<(), Fail> {
     assert_job(&rt, alloc, "mapf check m s 1 p c", check(alloc)?)?;
     assert_job(&rt, alloc, "mapf play m s 2 p", play(alloc)?)?;
     assert_job(&rt, alloc, "mapf dispatch m s 2 p e", dispatch(alloc)?)?;
+    assert_job(&rt, alloc, "mapf explain F6", explain(alloc)?)?;
     assert_job(&rt, alloc, "mapf", Job::Demo)?;
     assert!(rt; is_demo_without_words(alloc));
     Ok(())
@@ -158,6 +165,8 @@ const REFUSED: &[&str] = &[
     "mapf dispatch m s 0 p e",
     "mapf dispatch m s 201 p e",
     "mapf dispatch m s 2 p e f",
+    "mapf explain",
+    "mapf explain F2 S7 32",
     "mapf --",
     "mapf solve m s 2 10 m c",
     "mapf solve m s 2 10 p s",
@@ -196,6 +205,7 @@ const HELPS: &[(&str, &str)] = &[
     ("mapf help check", "\n  1  refused"),
     ("mapf play --help", "\n  0  shown"),
     ("mapf dispatch --help", "\n  0  dispatched"),
+    ("mapf explain --help", "\n  0  explained"),
 ];
 
 #[test]

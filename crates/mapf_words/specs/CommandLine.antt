@@ -60,17 +60,21 @@ dispatch_command =
     with_rule (with_rule (command_on (codes "dispatch")) (file_argument (codes "PLAN")))
     (file_argument (codes "EVENTS"))
 
+-- `explain LINE`
+abbrev pub explain_command : App
+explain_command = with_rule (new_app (codes "explain")) (file_argument (codes "LINE"))
+
 -- the program without its commands: it has a version, and requires a command
 abbrev pub program : App
 program =
     let new = new_app (codes "mapf") in
     record new { top = record new.top { has_version = true; subcommand_required = true } }
 
--- the program with its four commands
+-- the program with its five commands
 abbrev pub mapf_command : App
 mapf_command =
-    with_subcommand (with_subcommand (with_subcommand (with_subcommand program solve_command.top) check_command.top)
-    play_command.top) dispatch_command.top
+    with_subcommand (with_subcommand (with_subcommand (with_subcommand (with_subcommand program solve_command.top)
+    check_command.top) play_command.top) dispatch_command.top) explain_command.top
 
 -- `clap` accepts these words, of which the first is the program's name, and this is the job of the command and the
 -- arguments that it finds

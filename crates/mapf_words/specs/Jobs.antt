@@ -6,7 +6,7 @@ use Rattle.clap.specs.Matches.{first_value, one_text}
 use Rattle.clap.specs.declared.parser.matches.Found.{Found}
 use Rattle.mapf_model.specs.Limits.{most_agents, most_splits}
 use Rattle.mapf_words.specs.declared.job.Job.{Job}
-use Rattle.mapf_words.specs.declared.job.Job.TheVariants.{Demo, Solve, SolveBy, Check, Play, Dispatch}
+use Rattle.mapf_words.specs.declared.job.Job.TheVariants.{Demo, Solve, SolveBy, Check, Play, Dispatch, Explain}
 use Rattle.mapf_words.specs.declared.job.Search.{Search}
 use Rattle.mapf_words.specs.declared.job.Search.TheVariants.{Cbs, Cbsh}
 
@@ -27,6 +27,7 @@ IsInRange (SolveBy search map scen k limit improvements plan cert) =
 IsInRange (Check map scen k plan cert) = (1 ≤ k) × (k ≤ most_agents)
 IsInRange (Play map scen k plan) = (1 ≤ k) × (k ≤ most_agents)
 IsInRange (Dispatch map scen k plan events) = (1 ≤ k) × (k ≤ most_agents)
+IsInRange (Explain line) = ⊤
 
 -- two names of files differ, or both are the null device's, where what is written is discarded
 abbrev pub AreDistinctNames : List ℕ → List ℕ → Type 0
@@ -48,6 +49,7 @@ HasOwnOutputs (SolveBy search map scen k limit improvements plan cert) =
 HasOwnOutputs (Check map scen k plan cert) = ⊤
 HasOwnOutputs (Play map scen k plan) = ⊤
 HasOwnOutputs (Dispatch map scen k plan events) = ⊤
+HasOwnOutputs (Explain line) = ⊤
 
 -- the first value of the argument of that name, or the empty text if it has none
 abbrev pub named : Found → List ℕ → List ℕ
@@ -102,3 +104,5 @@ IsJobOf command found (Dispatch map scen k plan events) =
     (command ≡ codes "dispatch") × (string_bytes map ≡ named found (codes "MAP"))
     × (string_bytes scen ≡ named found (codes "SCEN")) × IsNumberOf found (codes "K") k
     × (string_bytes plan ≡ named found (codes "PLAN")) × (string_bytes events ≡ named found (codes "EVENTS"))
+IsJobOf command found (Explain line) =
+    (command ≡ codes "explain") × (string_bytes line ≡ named found (codes "LINE"))

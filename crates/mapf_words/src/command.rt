@@ -1,7 +1,8 @@
 //! The arguments of the program, as the parser of the command line takes them, with all texts of the help.
 ghost use Rattle.std.specs.Prelude.{◌≡◌, codes, false, IfOk};
 ghost use Rattle.clap.specs.Words.{app_of, rule_of};
-ghost use Rattle.mapf_words.specs.CommandLine.{IsCommand, check_command, dispatch_command, file_argument};
+ghost use Rattle.mapf_words.specs.CommandLine.{IsCommand, check_command, dispatch_command, explain_command};
+ghost use Rattle.mapf_words.specs.CommandLine.{file_argument};
 ghost use Rattle.mapf_words.specs.CommandLine.{mapf_command, number_argument, number_option, option_argument};
 ghost use Rattle.mapf_words.specs.CommandLine.{play_command, program, solve_command};
 ghost use Rattle.mapf_words.specs.Jobs.{most_improvements};
@@ -15,7 +16,7 @@ use std::alloc::{AllocError, Global};
 const ABOUT: &str =
     "Solves multi-agent path finding on four-connected grids: finds a plan with the least sum of
 costs, and writes a certificate which shows that no valid plan costs less. It also checks
-certificates, shows plans tick by tick, and dispatches agents along a plan.
+certificates, shows plans tick by tick, dispatches agents along a plan, and explains what it prints.
 Without arguments it solves and checks a small built-in problem.";
 
 // The program's version, and below it those of the texts. Both are defined here only.
@@ -35,19 +36,21 @@ Examples:
   mapf check grid.map agents.scen 5 plan.txt cert.txt
   mapf play grid.map agents.scen 5 plan.txt
   mapf dispatch grid.map agents.scen 5 plan.txt events.txt
+  mapf explain 'F2 S7 32'
 
 Standard output of solve is one line, such as 'cost 5', of check one line, such as 'optimal 5', of
-play the grid at each tick, of dispatch a reply to each event, such as 'go 1 1,1', and without
-arguments the plan text, the certificate and the verdict of the built-in problem.
+play the grid at each tick, of dispatch a reply to each event, such as 'go 1 1,1', of explain a
+line in words, and without arguments the plan text, the certificate and the verdict of the built-in
+problem.
 
 Exit status:
-  0  solved, accepted, shown, or dispatched
+  0  solved, accepted, shown, dispatched, or explained
   1  check refused the plan text or the certificate
   2  an error or a usage error, with a message on standard error
   3  solve found that no plan is valid
   4  solve reached a limit: it shows a bound alone, beside a plan or without one
 
-Errors, with details in the same line: F1 the map, F2 the scenario, F3 a plan that can't be played
+Errors, with details in the same line, which explain puts into words: F1 the map, F2 the scenario, F3 a plan that can't be played
 or followed, or the event text, F4 a file that can't be read, F5 one that can't be written, F6 out
 of memory.";
 
@@ -140,6 +143,20 @@ Example:
 Exit status:
   0  dispatched
   2  an error or a usage error, with a message on standard error";
+
+const EXPLAIN_ABOUT: &str = "Says in words what a line means that mapf prints";
+
+const EXPLAIN_OUTPUT: &str =
+    "LINE is one argument: an error of standard error, or a line of standard output of solve or check.
+No file is opened.
+
+Example:
+  mapf explain 'F2 S7 32'
+    prints that the scenario ends after 32 rows
+
+Exit status:
+  0  explained
+  2  mapf prints no such line, or a usage error, with a message on standard error";
 
 const MAP: &str = "The grid: a MovingAI map of type octile";
 
@@ -254,6 +271,15 @@ fn dispatch<'a>(alloc: Global) -> Result<Command<'a>, AllocError>
         ))
 }
 
+fn explain<'a>(alloc: Global) -> Result<Command<'a>, AllocError>
+    ensures { IfOk result (IsCommand explain_command) }
+{
+    Command::new(alloc, "explain")
+        .about(EXPLAIN_ABOUT)
+        .after_help(EXPLAIN_OUTPUT)
+        .arg(file(alloc, "LINE", "The line, as 'F2 S7 32'"))
+}
+
 // Returns the program without its commands.
 fn program<'a>(alloc: Global) -> Command<'a>
     ensures { app_of result ≡ program }
@@ -274,5 +300,6 @@ pub fn mapf<'a>(alloc: Global) -> Result<Command<'a>, AllocError>
         .subcommand(solve(alloc)?)?
         .subcommand(check(alloc)?)?
         .subcommand(play(alloc)?)?
-        .subcommand(dispatch(alloc)?)
+        .subcommand(dispatch(alloc)?)?
+        .subcommand(explain(alloc)?)
 }

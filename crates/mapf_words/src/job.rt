@@ -14,7 +14,7 @@ pub const MOST_IMPROVEMENTS: u32 = 1_000_000;
 /// How many improvements are tried for each agent if no number is asked for.
 pub const IMPROVEMENTS_FOR_EACH: u32 = 50;
 
-/// What the arguments ask for. Strings are names of files.
+/// What the arguments ask for. Strings are names of files, except in `Explain`.
 #[derive(Debug, PartialEq, Eq, Drop)]
 pub enum Job {
     /// Solve and check a small built-in problem.
@@ -70,5 +70,9 @@ pub enum Job {
         k: u32,
         plan: String,
         events: String,
+    },
+    /// Say in words what a line means that the program prints.
+    Explain {
+        line: String,
     },
 }

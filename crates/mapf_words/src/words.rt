@@ -191,6 +191,16 @@ fn dispatch_of(alloc: Global, given: &ArgMatches<'_>) -> Result<Job, WordsFault>
     })
 }
 
+fn explain_of(alloc: Global, given: &ArgMatches<'_>) -> Result<Job, WordsFault>
+    ensures range { IfOk result IsInRange }
+    ensures named { IfOk result (IsJobOf (codes "explain") (found_of given.now)) }
+    ensures own { IfOk result HasOwnOutputs }
+{
+    Ok(Job::Explain {
+        line: text_of(alloc, given, "LINE")?,
+    })
+}
+
 // Returns the job of a command, from the arguments by their names.
 fn job_in(alloc: Global, command: &str, given: &ArgMatches<'_>) -> Result<Job, WordsFault>
     ensures range { IfOk result IsInRange }
@@ -202,6 +212,7 @@ fn job_in(alloc: Global, command: &str, given: &ArgMatches<'_>) -> Result<Job, W
         "check" => check_of(alloc, given),
         "play" => play_of(alloc, given),
         "dispatch" => dispatch_of(alloc, given),
+        "explain" => explain_of(alloc, given),
         _ => Err(WordsFault::Bad(String::from_str(alloc, "error: no such command\n")?)),
     }
 }
