@@ -31,6 +31,23 @@ pub struct Known {
     pub cost: u64,
 }
 
+/// How many rounds an ascent may make, and how many states its searches may expand.
+#[derive(Clone, Copy, Debug)]
+pub struct Budget {
+    pub rounds: u32,
+    /// A joint state takes about as long as eight others, and counts for so many.
+    pub states: u64,
+}
+
+impl Budget {
+    // Returns how many percent of the budget are spent after so many rounds and states: 100 if one of both is used up.
+    fn percent(&self, rounds: u32, states: u64) -> u64 {
+        let rounds = u64::from(rounds).saturating_mul(100) / u64::from(self.rounds.max(1));
+        let states = states.saturating_mul(100) / self.states.max(1);
+        rounds.max(states)
+    }
+}
+
 /// How the rounds of an ascent ended.
 #[derive(Clone, Copy, Debug, PartialEq, Eq)]
 pub enum Ended {
@@ -38,8 +55,8 @@ pub enum Ended {
     Optimal,
     /// It will hardly reach the known bound.
     Behind,
-    /// All rounds were made.
-    AfterAll,
+    /// The budget is spent.
+    Spent,
 }
 
 /// The price of a resource by its number, in units.
@@ -77,6 +94,8 @@ pub struct Ascent<'a> {
     idle: u32,
     // What each two agents share in the rounds without mates.
     shares: Shares,
+    // Whether the bound was compared with the known one.
+    is_compared: bool,
     is_paired: bool,
     /// By agent, who is priced together with it, or the agent itself.
     pub mates: Vec<usize>,
@@ -116,26 +135,35 @@ impl<'a> Ascent<'a> {
             theta: FIRST_THETA,
             idle: 0,
             shares,
+            is_compared: false,
             is_paired: false,
             mates,
             couples,
         })
     }
 
-    /// Makes rounds, at most so many. Stops when the bound shows that the known plan is optimal, or if it stays far behind
-    /// the known bound.
-    pub fn run(&mut self, rounds: u32) -> Result<Ended, OutOfMemory> {
+    /// Makes rounds until the budget is spent. Stops when the bound shows that the known plan is optimal, or if after a
+    /// quarter of the budget it is far behind the known bound.
+    pub fn run(&mut self, budget: &Budget) -> Result<Ended, OutOfMemory> {
         let unit = u64::from(self.prices.unit);
-        for round in 0..rounds {
+        let begin = self.states();
+        for round in 0..budget.rounds {
+            let spent = budget.percent(round, self.states().saturating_sub(begin));
+            if spent >= 100 {
+                break;
+            }
             let sum = self.improve()?;
             self.judge(sum.saturating_sub(self.prices.total))?;
             if self.bound.saturating_add(unit) > self.target {
                 return Ok(Ended::Optimal);
             }
-            if !self.is_paired && round == rounds / 4 && self.is_behind() {
-                return Ok(Ended::Behind);
+            if spent >= 25 && !self.is_compared {
+                self.is_compared = true;
+                if self.is_behind() {
+                    return Ok(Ended::Behind);
+                }
             }
-            if !self.is_paired && round > rounds / 2 {
+            if spent > 50 && !self.is_paired {
                 self.shares.note(&self.prices, &self.paths)?;
             }
             self.contest()?;
@@ -143,7 +171,13 @@ impl<'a> Ascent<'a> {
                 break;
             }
         }
-        Ok(Ended::AfterAll)
+        Ok(Ended::Spent)
+    }
+
+    // Returns how many states all searches have expanded.
+    fn states(&self) -> u64 {
+        let joint = self.couples.search.work.saturating_mul(8);
+        self.paths.search.work.saturating_add(joint)
     }
 
     // Returns whether prices raised the bound by less than two thirds of what the known one needs: the rounds after the

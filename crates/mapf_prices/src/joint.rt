@@ -90,6 +90,8 @@ pub struct JointSearch {
     numbers: HashMap<u64, u32>,
     // Paths cost less than this together.
     limit: u64,
+    /// How many joint states were expanded by all searches.
+    pub work: u64,
 }
 
 // A step of one agent: where it leads, and what it costs.
@@ -108,6 +110,7 @@ impl JointSearch {
             open: BinaryHeap::new(alloc),
             numbers: HashMap::new(alloc),
             limit: 0,
+            work: 0,
         }
     }
 
@@ -139,6 +142,7 @@ impl JointSearch {
                 let last = Some(open.number);
                 return Ok(Found { cost, last });
             }
+            self.work = self.work.saturating_add(1);
             self.arrive(prices, halves, open.number, &node)?;
             self.step(prices, halves, open.number, &node)?;
         }

@@ -1,5 +1,5 @@
 //! The bound of the best prices, in a unit as coarse as it can be, with what shows it.
-use crate::ascent::{Ascent, Ended, Known};
+use crate::ascent::{Ascent, Budget, Ended, Known};
 use crate::labels::{entries, joint_entries, table_entries};
 use crate::prices::{Prices, UNIT};
 use crate::resources::Resources;
@@ -17,15 +17,16 @@ const SLACK: Tick = 80;
 // The greatest number of cells, each at a tick, for which prices are tried: they take up to 130 MB.
 const MOST_STATES: usize = 2_000_000;
 
-// How many paths of single agents are searched for, and how many of two together, over all rounds.
-const SINGLE_SEARCHES: usize = 40_000;
+// What rounds may take in which each agent is priced alone, and then those with mates.
+const ALONE: Budget = Budget {
+    rounds: 600,
+    states: 12_000_000,
+};
 
-const PAIR_SEARCHES: usize = 2_000;
-
-// The most rounds of each kind.
-const MOST_ROUNDS: usize = 600;
-
-const MOST_PAIRED_ROUNDS: usize = 60;
+const PAIRED: Budget = Budget {
+    rounds: 60,
+    states: 24_000_000,
+};
 
 /// A bound by prices, in ticks, and what shows it.
 #[derive(Debug, Drop)]
@@ -51,9 +52,9 @@ pub enum PricedLemma {
     },
 }
 
-/// Finds prices in a number of rounds that falls with the number of agents. Returns their bound on the sum of costs. None
-/// if the grid is too large for prices, no steps lead an agent to its goal, or after a quarter of the rounds prices are
-/// far behind the known bound. Out of memory is the only error.
+/// Finds prices within a budget, and returns their bound on the sum of costs. None if the grid is too large for prices, no
+/// steps lead an agent to its goal, or after a quarter of the budget prices are far behind the known bound. Out of memory
+/// is the only error.
 pub fn price_bound(
     alloc: Global,
     problem: &Problem,
@@ -67,17 +68,14 @@ pub fn price_bound(
         return Ok(None);
     }
     let resources = Resources::of(alloc, problem.grid(), ticks)?;
-    let agents = problem.agents().len().max(1);
-    let rounds = rounds_of(SINGLE_SEARCHES, agents, MOST_ROUNDS);
-    let paired = rounds_of(PAIR_SEARCHES.saturating_mul(2), agents, MOST_PAIRED_ROUNDS);
     let prices = Prices::of(alloc, resources)?;
     let mut ascent = Ascent::of(alloc, problem, &distances, prices, known)?;
-    match ascent.run(rounds)? {
+    match ascent.run(&ALONE)? {
         Ended::Optimal => {}
         Ended::Behind => return Ok(None),
-        Ended::AfterAll => {
+        Ended::Spent => {
             ascent.pair()?;
-            let _ended = ascent.run(paired)?;
+            let _ended = ascent.run(&PAIRED)?;
         }
     }
     let wanted = ascent.bound.div_ceil(u64::from(UNIT));
@@ -94,12 +92,6 @@ pub fn price_bound(
         }
     }
     Ok(None)
-}
-
-// Returns how many rounds so many searches are.
-fn rounds_of(searches: usize, agents: usize, most: usize) -> u32 {
-    let rounds = searches.checked_div(agents).unwrap_or(0).min(most);
-    u32::try_from(rounds).unwrap_or(0)
 }
 
 // Returns the tick before which resources may have prices.
