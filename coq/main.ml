@@ -28,9 +28,9 @@ let opened path = try open_in_bin path with Sys_error why -> fault why
 let whole path =
   let file = opened path in
   let text = Buffer.create 65536 in
-  let part = Bytes.create 65536 in
+  let part = Bytes.create 4096 in
   let rec go_on () =
-    match input file part 0 65536 with
+    match input file part 0 4096 with
     | 0 -> ()
     | count -> Buffer.add_subbytes text part 0 count; go_on () in
   (try go_on () with Sys_error why -> fault why);
@@ -38,9 +38,9 @@ let whole path =
 
 (* Hands the certificate over in parts, and stops where it is refused. *)
 let read_certificate task file =
-  let part = Bytes.create 65536 in
+  let part = Bytes.create 4096 in
   let rec go_on reading =
-    match input file part 0 65536 with
+    match input file part 0 4096 with
     | 0 -> reading
     | count ->
       let reading = take_bytes task reading (list_of part count) in
