@@ -57,7 +57,7 @@ let judge map scen number plan cert =
 let is_number_of_agents number = Array.mem number (Array.sub bytes 1 200)
 
 let () =
-  Gc.set { (Gc.get ()) with Gc.minor_heap_size = 1 lsl 20; space_overhead = 300 };
+  Gc.set { (Gc.get ()) with Gc.minor_heap_size = 1 lsl 21; space_overhead = 1000 };
   match Sys.argv with
   | [| _; map; scen; k; plan; cert |] ->
     (match read_number (list_of (Bytes.of_string k) (String.length k)) with
