@@ -393,7 +393,7 @@ HARMLESS = {
         [('"L": (1, 9_999_999)', '"L": (0, 9_999_999)')],
         "a label is greater than the distance"),
     "takes longer lines of certificates": (
-        [('lines = Lines(file, "C2 K", 64)', 'lines = Lines(file, "C2 K", 4096)')],
+        [('"C2 K", LONGEST_LINE', '"C2 K", 4096')],
         "by the ranges no line has more than 43 bytes"),
     "lets the last two pairs of a path be equal": (
         [(" or (cost > 0 and path[-1] == path[-2])", "")],

@@ -10,10 +10,10 @@ from pathlib import Path
 
 from harness import TESTS
 
-from answers import as_plan_text, read_answer
-from plans import Agent, Grid, faults_of
-from process import ToolError
-from texts import plan_text
+from mapf_tools.answers import as_plan_text, read_answer
+from mapf_tools.plans import Agent, Grid, faults_of
+from mapf_tools.process import ToolError
+from mapf_tools.texts import plan_text
 
 TOOLS = TESTS.parent / "tools"
 
@@ -23,7 +23,7 @@ MOST_BYTES = 256 << 20
 
 # Reads an answer of two agents with little memory, and prints the sum of the ticks and the last cells.
 READS = ("import resource, sys; resource.setrlimit(resource.RLIMIT_AS, (int(sys.argv[2]),) * 2); "
-         "from answers import read_answer; paths = read_answer(sys.argv[1], 2); "
+         "from mapf_tools.answers import read_answer; paths = read_answer(sys.argv[1], 2); "
          "print(sum(map(len, paths)), *(path[-1] for path in paths))")
 
 

@@ -2,17 +2,17 @@
 each of them.
 """
 
-from commands import command
 from harness import TESTS
+
+from mapf_tools import recheck
 
 
 def tests(tally):
-    recheck = command("recheck")
     for folder in sorted((TESTS / "version3").iterdir()):
-        tally.add(f"recheck 3, {folder.name}", faults(recheck, folder))
+        tally.add(f"recheck 3, {folder.name}", faults(folder))
 
 
-def faults(recheck, folder):
+def faults(folder):
     """What recheck says of a certificate, where that isn't what is wanted."""
     agents = int((folder / "words").read_text().split()[3])
     files = [str(folder / name) for name in ("map", "scen", "plan", "cert")]

@@ -9,8 +9,9 @@ import tempfile
 from pathlib import Path
 
 from answers_tests import spelled
-from commands import command
 from harness import TESTS, Ended, cases_of, run, told
+
+from mapf_tools import recheck  # as a module, so that thousands of runs don't start Python each
 
 RECHECK = TESTS.parent / "tools" / "recheck"
 EXAMPLES = TESTS.parent / "examples"
@@ -52,21 +53,20 @@ PIECES = [b"0", b"1", b"2", b"7", b"9", b"10", b" ", b"  ", b"\t", b"\n", b"\r",
 
 
 def tests(tally):
-    recheck = command("recheck")  # so that thousands of runs don't start Python each
     for case in cases_of(TESTS / "cases"):
         if case.words[:1] == ["check"] and case.wanted("stdout-has") is None and case.wanted("stderr-has") is None:
             tally.add(f"recheck, {case.name}", case_faults(case))
     with tempfile.TemporaryDirectory() as name:
         bases = [*solved_cases(Path(name)), *solved_examples(Path(name))]
         for title, agents, folder in bases:
-            tally.add(f"recheck, {title}", difference(recheck, agents, folder))
+            tally.add(f"recheck, {title}", difference(agents, folder))
         for title in CASES:
-            faults = lines_that_differ(recheck, TESTS / "cases" / title, Path(name))
+            faults = lines_that_differ(TESTS / "cases" / title, Path(name))
             tally.add(f"recheck, other lines in {title}", faults)
         # thousands of edits of a text on a large map would take minutes
         bases = [base for base in bases if not base[0].startswith("warehouse")]
         bases += accepted_cases(Path(name))
-        tally.add(f"recheck, {EDITS} edits", edits_that_differ(recheck, bases, Path(name)))
+        tally.add(f"recheck, {EDITS} edits", edits_that_differ(bases, Path(name)))
     for title, faults in other_answers().items():
         tally.add(f"recheck, {title}", faults)
     tally.add("recheck, words", words_faults())
@@ -111,7 +111,7 @@ def filled(folder, texts):
     return folder
 
 
-def difference(recheck, agents, folder, edited=None):
+def difference(agents, folder, edited=None):
     """Both are asked about the texts of this folder, of which one may be in another place. Where they differ: what each
     says.
     """
@@ -125,7 +125,7 @@ def difference(recheck, agents, folder, edited=None):
     return [] if ours == theirs else [f"recheck says {told(ours)}, mapf check {told(theirs)}"]
 
 
-def lines_that_differ(recheck, case, folder):
+def lines_that_differ(case, folder):
     """Replaces each line of both texts by each of the lines above, and has both judge the text."""
     place = folder / "replaced"
     faults = []
@@ -133,12 +133,12 @@ def lines_that_differ(recheck, case, folder):
         given = (case / name).read_text().split("\n")[:-1]
         for number, line in itertools.product(range(len(given)), lines):
             place.write_text("\n".join([*given[:number], line, *given[number + 1:], ""]))
-            differences = difference(recheck, 2, case, {name: str(place)})
+            differences = difference(2, case, {name: str(place)})
             faults += [f"{name} with {line!r} for line {number + 1}: {said}" for said in differences]
     return faults
 
 
-def edits_that_differ(recheck, bases, folder):
+def edits_that_differ(bases, folder):
     """Edits a text of one of the bases, and has both judge it. A failure tells which, and leaves the text."""
     draw = random.Random(SEED)
     place = folder / "edited"
@@ -149,7 +149,7 @@ def edits_that_differ(recheck, bases, folder):
         for _ in range(draw.choice((1, 1, 1, 2))):
             text = edited(text, draw)
         place.write_bytes(text)
-        faults = difference(recheck, agents, base, {name: str(place)})
+        faults = difference(agents, base, {name: str(place)})
         if faults:
             descriptor, kept = tempfile.mkstemp(prefix="mapf-edited-")
             os.write(descriptor, text)

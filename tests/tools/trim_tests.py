@@ -10,11 +10,12 @@ import sys
 import tempfile
 from pathlib import Path
 
-from commands import command
 from harness import TESTS, run
 from recheck_tests import accepted_cases, solved_cases, solved_examples
 from rule_vectors import vectors_of
 from versions import TITLE, TITLE_TWO
+
+from mapf_tools import trim
 
 TRIM = TESTS.parent / "tools" / "trim"
 CASES = TESTS / "cases"
@@ -85,28 +86,27 @@ CROSSED = f"vertex 0 1 1,1 1 0\n{LATER}leaf 1\nagent 1 1\nat 1,0 0 3\n"
 
 
 def tests(tally):
-    trim = command("trim")
     for name, left in LEFT.items():
-        tally.add(f"trim, what is left of {name}", left_faults(trim, name, left))
+        tally.add(f"trim, what is left of {name}", left_faults(name, left))
     with tempfile.TemporaryDirectory() as name:
         folder = Path(name)
         examples = list(solved_examples(folder))
         for title, agents, place in [*solved_cases(folder), *accepted_cases(folder), *examples]:
             given = {file: place / file for file in ("map", "scen", "plan", "cert")}
             if given["cert"].read_bytes().startswith((TITLE, TITLE_TWO)):
-                tally.add(f"trim, {title}", faults_of(trim, given, agents, folder / "trimmed"))
+                tally.add(f"trim, {title}", faults_of(given, agents, folder / "trimmed"))
         for vector in vectors_of("check"):
             if vector.is_accepted():
-                tally.add(f"trim, {vector.name}", faults_of(trim, vector.files, vector.agents, folder / "trimmed"))
-        tally.add("trim, the examples", example_faults(trim, examples))
+                tally.add(f"trim, {vector.name}", faults_of(vector.files, vector.agents, folder / "trimmed"))
+        tally.add("trim, the examples", example_faults(examples))
         for title, tree in (("of which no side is needed", CROSSED + CROSSED),
                             ("of which the shorter side is needed", LATER + CROSSED)):
-            tally.add(f"trim, a split {title}", beside_faults(trim, tree, folder))
+            tally.add(f"trim, a split {title}", beside_faults(tree, folder))
     for title, faults in calls().items():
         tally.add(f"trim, {title}", faults)
 
 
-def trimmed(trim, files, agents):
+def trimmed(files, agents):
     """What is left of a certificate. The files are by their names."""
     places = {name: str(files[name]) for name in ("map", "scen", "plan", "cert")}
     return trim.trimmed(argparse.Namespace(k=agents, **places))
@@ -117,11 +117,11 @@ def tree_of(text):
     return text.splitlines()[3:-1]
 
 
-def left_faults(trim, name, left):
+def left_faults(name, left):
     """What differs from these lines in what is left of the certificate of a case."""
     given = (CASES / name / "cert").read_text()
     agents = int(re.search("agents ([0-9]+)", given)[1])
-    text = trimmed(trim, {file: CASES / name / file for file in ("map", "scen", "plan", "cert")}, agents)
+    text = trimmed({file: CASES / name / file for file in ("map", "scen", "plan", "cert")}, agents)
     return [] if text == with_tree(given, left) else [f"it is {text!r}"]
 
 
@@ -131,14 +131,14 @@ def with_tree(certificate, tree):
     return "\n".join(lines)
 
 
-def faults_of(trim, files, agents, place):
+def faults_of(files, agents, place):
     """What is left isn't longer, and judged as the whole is. What is left of it is no longer either."""
     whole = files["cert"].read_text(encoding="latin-1")
-    text = trimmed(trim, files, agents)
+    text = trimmed(files, agents)
     place.write_text(text)
     faults = [f"{len(text)} bytes are left of {len(whole)}"] if len(text) > len(whole) else []
     left = {**files, "cert": place}
-    if len(trimmed(trim, left, agents)) > len(text):
+    if len(trimmed(left, agents)) > len(text):
         faults.append("what is left of what is left is longer")
     for given in (files, left):
         words = [str(given["map"]), str(given["scen"]), str(agents), str(given["plan"]), str(given["cert"])]
@@ -149,24 +149,24 @@ def faults_of(trim, files, agents, place):
     return faults
 
 
-def example_faults(trim, examples):
+def example_faults(examples):
     """Of some examples the root alone is left, and of the others at most half."""
     faults = []
     for title, agents, place in examples:
         files = {file: place / file for file in ("map", "scen", "plan", "cert")}
-        text, whole = trimmed(trim, files, agents), files["cert"].read_text()
+        text, whole = trimmed(files, agents), files["cert"].read_text()
         if tree_of(whole) != ["leaf 0"] and 2 * len(text) > len(whole):
             faults.append(f"of {title} {len(text)} bytes are left of {len(whole)}")
     return faults
 
 
-def beside_faults(trim, tree, folder):
+def beside_faults(tree, folder):
     """Of a split of agents 0 and 2 that isn't needed what is left is that of agents 0 and 1."""
     texts = {**BESIDE, "cert": f"{HEAD}vertex 0 2 1,1 1 0\n{tree}end\n"}
     files = {name: folder / name for name in texts}
     for name, text in texts.items():
         files[name].write_text(text)
-    text = trimmed(trim, files, 3)
+    text = trimmed(files, 3)
     return [] if text == f"{HEAD}{CROSSED}end\n" else [f"it is {text!r}"]
 
 

@@ -5,9 +5,9 @@ from collections.abc import Iterable
 from html import escape
 from pathlib import Path
 
-from sweep_plot import cactus, plot, runtime
-from sweep_points import Point, kind_of
-from sweep_rows import SOLVED, USUAL, Row
+from .sweep_plot import cactus, plot, runtime
+from .sweep_points import Point, kind_of
+from .sweep_rows import SOLVED, USUAL, Row
 
 STYLE = Path(__file__).resolve().with_name("sweep_report.css")
 

@@ -4,8 +4,8 @@ import re
 from dataclasses import dataclass
 from statistics import median
 
-from sweep_rows import NO_AGENTS, NO_MAP, SOLVED, Row, natural
-from sweep_scenarios import Scenario
+from .sweep_rows import NO_AGENTS, NO_MAP, SOLVED, Row, natural
+from .sweep_scenarios import Scenario
 
 
 @dataclass(frozen=True)

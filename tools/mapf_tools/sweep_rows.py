@@ -8,7 +8,7 @@ from collections.abc import Iterable
 from dataclasses import astuple, dataclass, fields
 from pathlib import Path
 
-from process import ToolError
+from .process import ToolError
 
 # What stands for a name where names are put in order.
 Natural = list[tuple[int, str]]

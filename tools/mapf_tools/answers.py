@@ -14,10 +14,10 @@ import re
 from itertools import islice
 from pathlib import Path
 
-from plans import Cell, cut_waits
-from process import ToolError
-from schedules import read_schedule
-from texts import Cells, Text, plan_text, read_bytes, read_plan, shortened
+from .plans import Cell, cut_waits
+from .process import ToolError
+from .schedules import read_schedule
+from .texts import Cells, Text, plan_text, read_bytes, read_plan, shortened
 
 FORMATS = "paths", "lacam", "yaml", "plan"
 

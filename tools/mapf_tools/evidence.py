@@ -15,7 +15,7 @@ from dataclasses import dataclass
 from pathlib import Path
 from typing import overload
 
-from process import ToolError, progress, signals_held
+from .process import ToolError, progress, signals_held
 
 # The files in the folder that shows an answer: the problem, the other solver's plan, a certificate, what the search
 # found, and the note.
@@ -66,7 +66,7 @@ class Evidence:
 
     def __init__(self, mapf: str, given: argparse.Namespace) -> None:
         self.mapf = mapf
-        self.agents: int = given.agents
+        self.agents: int = given.k
         self.limit: int = given.limit
         self.seconds: float | None = given.seconds
         self.answer: str = given.answer

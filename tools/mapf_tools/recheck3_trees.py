@@ -4,7 +4,7 @@
 from collections.abc import Callable, Iterable
 from typing import NamedTuple
 
-from recheck3_labels import INFINITE, Cell, Constraint, Label, PriceList, Problem
+from .recheck3_labels import INFINITE, Cell, Constraint, Label, PriceList, Problem
 
 Key = tuple[str, int, tuple[Cell, ...], int | None]     # All of a constraint but its number, if one implies others.
 Undo = list[tuple[Key, int | None]]                     # The numbers that stood before, None where nothing stood.

@@ -4,8 +4,8 @@ from collections.abc import Iterable
 from dataclasses import dataclass
 from statistics import mean, median
 
-from sweep_rows import NO_AGENTS, NO_MAP, SOLVED, Row, natural
-from sweep_scenarios import Scenario
+from .sweep_rows import NO_AGENTS, NO_MAP, SOLVED, Row, natural
+from .sweep_scenarios import Scenario
 
 
 @dataclass(frozen=True)

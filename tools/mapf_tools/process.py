@@ -2,6 +2,7 @@
 
 import contextlib
 import os
+import shutil
 import signal
 import subprocess
 import sys
@@ -9,7 +10,7 @@ from collections.abc import Callable, Iterator
 from pathlib import Path
 from typing import NoReturn
 
-TOP = Path(__file__).resolve().parent.parent
+TOP = Path(__file__).resolve().parent.parent.parent
 
 MOST_SECONDS_OF_VERSION = 60
 
@@ -27,6 +28,12 @@ class Stopped(KeyboardInterrupt):
     def __init__(self, number: int) -> None:
         super().__init__(number)
         self.number = number
+
+
+def called(name: str) -> str:
+    """How the tool of this name is called: by its place in the tree, or as mapf-NAME where the package is installed."""
+    given = Path(sys.argv[0]).name
+    return given if given.startswith("mapf-") else f"tools/{name}"
 
 
 def run_tool(main: Callable[[], int]) -> NoReturn:
@@ -105,7 +112,8 @@ def signals_held() -> Iterator[None]:
 
 def program() -> str:
     """The command of mapf: what MAPF names, else the proved program of this tree, which is built first where it has to
-    be."""
+    be. A package that is installed takes the one on the path.
+    """
     named = os.environ.get("MAPF")
     if named:
         if not os.access(named, os.X_OK) or os.path.isdir(named):
@@ -113,7 +121,7 @@ def program() -> str:
         return str(Path(named).resolve())
     here = TOP / "mapf"
     if not os.access(here, os.X_OK):
-        raise ToolError(f"the program isn't at {here}: set MAPF to where it is")
+        return installed()
     prove = TOP / "prove"
     if not os.access(prove, os.X_OK):
         return str(here)  # in an archive
@@ -126,6 +134,14 @@ def program() -> str:
     if process.returncode != 0:
         raise ToolError(f"{prove} couldn't build the program: see above, or set MAPF to a program that is built")
     return built.strip()
+
+
+def installed() -> str:
+    """The command of mapf that is on the path, for a package that isn't in the tree of mapf."""
+    found = shutil.which("mapf")
+    if found is None:
+        raise ToolError("there is no program mapf on the path: set MAPF to where it is")
+    return found
 
 
 def version_of(path: str) -> str:

@@ -3,9 +3,9 @@
 from dataclasses import dataclass
 from pathlib import Path
 
-from process import ToolError
-from sweep_rows import natural
-from texts import read_bytes
+from .process import ToolError
+from .sweep_rows import natural
+from .texts import read_bytes
 
 
 @dataclass(frozen=True)

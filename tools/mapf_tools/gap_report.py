@@ -4,10 +4,10 @@ from dataclasses import dataclass
 from html import escape
 from math import ceil
 
-from gap_points import GapPoint, mean_of
-from sweep_plot import TOP, across, curve, figure, frame, legend, tick_step, up
-from sweep_report import MANY, aligned, document, ends, folded, seconds, to_go, troubles
-from sweep_rows import Row
+from .gap_points import GapPoint, mean_of
+from .sweep_plot import TOP, across, curve, figure, frame, legend, tick_step, up
+from .sweep_report import MANY, aligned, document, ends, folded, seconds, to_go, troubles
+from .sweep_rows import Row
 
 # The steps of a scale of gaps are whole multiples of this part of 1; of 1% without a gap above 0.
 FINEST, PERCENT = 100_000, 1000

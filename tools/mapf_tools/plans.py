@@ -54,7 +54,7 @@ def cost_of(path: list[Cell]) -> int:
     return len(cut_waits(path)) - 1
 
 
-def sum_of(paths: Iterable[list[Cell]]) -> int:
+def sum_of_costs(paths: Iterable[list[Cell]]) -> int:
     """The sum of the paths' costs."""
     return sum(map(cost_of, paths))
 

@@ -7,9 +7,9 @@ labels is in recheck3_labels.py, and what a node may use in recheck3_trees.py.
 from collections.abc import Callable, Iterable
 from typing import Any
 
-from recheck3_labels import (
+from .recheck3_labels import (
     INFINITE, Cell, Constraint, JointLabels, JointState, Label, Labels, Limits, PriceList, Problem, State, is_closed)
-from recheck3_trees import Leaf, Lemma, Scope
+from .recheck3_trees import Leaf, Lemma, Scope
 
 # The lines after the claim, as tools/recheck has them. A letter stands for a number and has its range: T is a tick
 # that a split may have, k a cost or tick of an arrival that `most` allows, t any other tick or cost, S a number of

@@ -12,9 +12,9 @@ that stands under other names than `schedule:`.
 import re
 from collections.abc import Iterator
 
-from plans import Cell
-from process import ToolError
-from texts import Text, shortened
+from .plans import Cell
+from .process import ToolError
+from .texts import Text, shortened
 
 AGENT = re.compile("""(["']?)agent([0-9]{1,10})\\1 *:""")
 NUMBER = re.compile("-?[0-9]{1,10}")

@@ -6,8 +6,8 @@ from collections.abc import Callable, Iterable
 from dataclasses import dataclass, field
 from pathlib import Path
 
-from plans import FREE, Agent, Cell, Grid, shown, sum_of
-from process import ToolError
+from .plans import FREE, Agent, Cell, Grid, shown, sum_of_costs
+from .process import ToolError, called
 
 MOST_AGENTS = 200
 GREATEST_SIDE = 2048
@@ -106,7 +106,15 @@ def number_between(least: int, most: int) -> Callable[[str], int]:
     return number
 
 
-agent_count = number_between(1, MOST_AGENTS)
+def problem_parser(name: str, about: str, epilog: str) -> argparse.ArgumentParser:
+    """For the tool of this name: what reads the words of a call, of which the first three tell the problem."""
+    parser = argparse.ArgumentParser(prog=called(name), description=about, epilog=epilog,
+                                     formatter_class=argparse.RawDescriptionHelpFormatter)
+    parser.add_argument("map", metavar="MAP", help="the grid: a MovingAI map")
+    parser.add_argument("scen", metavar="SCEN", help="the agents: a MovingAI scenario for that map")
+    parser.add_argument("k", metavar="K", type=number_between(1, MOST_AGENTS),
+                        help=f"how many agents: the first K of SCEN, 1 to {MOST_AGENTS}")
+    return parser
 
 
 def seconds_of(word: str) -> float:
@@ -250,8 +258,8 @@ def answer_of(text: Text, version: int, agents: int) -> Plan:
     cost = number_in(text, 3, "cost ", 0, GREATEST_SUM)
     cells = Cells(PAIR)
     paths = [path_of(text, 4 + agent, agent, cells) for agent in range(agents)]
-    if sum_of(paths) != cost:
-        raise text.fault(3, f"the costs of the paths add up to {sum_of(paths)}")
+    if sum_of_costs(paths) != cost:
+        raise text.fault(3, f"the costs of the paths add up to {sum_of_costs(paths)}")
     return Plan("cost", agents, cost, paths)
 
 
@@ -271,7 +279,7 @@ def path_of(text: Text, number: int, agent: int, cells: Cells) -> list[Cell]:
 
 def plan_text(paths: list[list[Cell]]) -> str:
     """The plan text of these paths, of which none ends with a wait."""
-    lines = ["mapf-plan 2", f"agents {len(paths)}", f"cost {sum_of(paths)}"]
+    lines = ["mapf-plan 2", f"agents {len(paths)}", f"cost {sum_of_costs(paths)}"]
     for agent, path in enumerate(paths):
         spelled = {cell: "%d,%d" % cell for cell in set(path)}
         lines.append(f"path {agent} {len(path) - 1} " + " ".join(map(spelled.__getitem__, path)))

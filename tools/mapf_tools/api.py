@@ -1,0 +1,93 @@
+"""What the package offers to other programs beside the readers and rules of plans.py and texts.py. A fault of a file is
+the exception ToolError, whose text is one line that says what to do.
+"""
+
+from collections.abc import Sequence
+from dataclasses import dataclass
+from pathlib import Path
+
+from . import recheck
+from .answers import read_answer
+from .draw import data_of, page_of
+from .plans import Agent, Cell, Fault, Grid, faults_of
+from .process import ToolError
+from .texts import read_agents
+
+
+@dataclass(frozen=True)
+class Certificate:
+    """The head of a certificate: its version, its number of agents, and what it claims, which is 'cost', 'bound' or
+    'impossible'. `number` is the cost or the bound, None of 'impossible'.
+    """
+
+    version: int
+    agents: int
+    claim: str
+    number: int | None
+
+
+@dataclass(frozen=True)
+class Verdict:
+    """What a checker says of a plan and a certificate: its line, which is that of `mapf check`."""
+
+    line: str
+
+    def is_accepted(self) -> bool:
+        """Whether the certificate shows its claim, and the plan is valid if there is one."""
+        return not self.line.startswith("refused ")
+
+
+def read_scenario(path: str | Path, grid: Grid, count: int) -> list[Agent]:
+    """The first agents of a scenario for this map, so many."""
+    return read_agents(path, grid, count)
+
+
+def read_plan(path: str | Path, agents: Sequence[Agent], name: str | None = None,
+              is_exchanged: bool = False) -> list[list[Cell]]:
+    """The plan in a file, in each format that tools/verify reads. Unless the format is named, the first line tells it.
+    x and y are exchanged, if so asked.
+    """
+    return read_answer(path, len(agents), name, is_exchanged)
+
+
+def faults_of_plan(grid: Grid, agents: Sequence[Agent], plan: Sequence[list[Cell]]) -> list[Fault]:
+    """All that is wrong with a plan for these agents on this map. The list is empty where the plan is valid."""
+    if len(plan) != len(agents):
+        raise ValueError(f"{len(agents)} agents have {len(plan)} paths")
+    if not all(plan):
+        raise ValueError("a path has no cell")
+    return faults_of(grid, agents, list(plan)) if plan else []
+
+
+def read_certificate(path: str | Path) -> Certificate:
+    """The head of the certificate in a file. Nothing of the rest is read."""
+    try:
+        with open(path, "rb") as file:
+            lines = recheck.Lines(file, "C2 K", recheck.LONGEST_LINE)
+            version = lines.title("mapf-cert", 3)
+            ranges = recheck.ranges_of((1, 1, set()), 1, 0)
+            agents: int = lines.take(["agents K"], ranges)[1][0]
+            shape, numbers = lines.take(recheck.CLAIMS[version], ranges)
+    except OSError as error:
+        raise ToolError(f"{path} can't be read: {error.strerror}") from None
+    except recheck.Refused:
+        raise ToolError(f"{path}, line {lines.number}: a certificate begins with 'mapf-cert V', 'agents K' and a claim "
+                        "as docs/FORMATS.md shows them") from None
+    return Certificate(version, agents, shape.split(" ")[1], numbers[0] if numbers else None)
+
+
+def recheck_certificate(grid: str | Path, scenario: str | Path, count: int, plan: str | Path,
+                        certificate: str | Path) -> Verdict:
+    """What tools/recheck says of these four files: whether the certificate shows its claim for so many agents."""
+    files = [str(path) for path in (grid, scenario, plan, certificate)]
+    stream, line, _ = recheck.answer(files, count)
+    if stream == 2:
+        raise ToolError(f"recheck says '{line}' of {', '.join(files)}: docs/FORMATS.md tells what it means")
+    return Verdict(line)
+
+
+def draw_page(grid: Grid, agents: Sequence[Agent], plan: Sequence[list[Cell]],
+              names: tuple[str, str, str] = ("map", "scenario", "plan")) -> str:
+    """A page of HTML that plays the plan and marks its faults. The names are those that it shows of the three texts."""
+    faults = faults_of_plan(grid, agents, plan)
+    return page_of(names, data_of(names, grid, agents, plan, faults))

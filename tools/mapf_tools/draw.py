@@ -1,0 +1,141 @@
+"""Draws a plan: writes one page that stands alone, to be opened in a browser."""
+
+import argparse
+import base64
+import html
+import json
+import re
+import sys
+from collections.abc import Iterator, Sequence
+from itertools import groupby, islice
+from pathlib import Path
+from typing import Any, NoReturn
+
+from .answers import add_options, read_answer
+from .colours import colours
+from .plans import Agent, Cell, Fault, Grid, conflicts_at, cost_of, cut_waits, faults_of_path, ticks_of
+from .process import ToolError, clear_progress, progress, run_tool
+from .texts import problem_parser, read_agents, read_map
+
+# What the page is made of.
+PAGE = Path(__file__).resolve().parent / "page"
+SCRIPTS = "plan.js", "map.js", "page.js"
+
+# How many faults of a plan the page lists.
+MOST_FAULTS = 1000
+
+LETTERS = {(1, 0): "r", (-1, 0): "l", (0, 1): "d", (0, -1): "u", (0, 0): "w"}
+
+EXAMPLE = """PLAN is a plan text, as mapf solve writes it, or what another solver left: all that tools/verify reads.
+
+example:
+  ./mapf solve examples/random-32-32.map examples/random-32-32.scen 8 100 plan.txt cert.txt
+  tools/draw examples/random-32-32.map examples/random-32-32.scen 8 plan.txt > plan.html
+
+The page needs no network and no other file. Behind '#' the page's address may name the tick at which it opens,
+and an agent to be picked: plan.html#tick=12&agent=3
+
+exit status:
+  0    the page is written; also of a plan that isn't valid, whose faults it marks and lists
+  2    an error, with a message on standard error"""
+
+
+def main() -> int:
+    words = words_given()
+    if sys.stdout.isatty():
+        raise ToolError("the page would fill this terminal: end the command with > plan.html")
+    grid = read_map(words.map)
+    agents = read_agents(words.scen, grid, words.k)
+    paths = read_answer(words.plan, words.k, words.format, words.exchange_xy)
+    faults = list(islice(all_faults(grid, agents, paths), MOST_FAULTS + 1))
+    names = [Path(name).name for name in (words.map, words.scen, words.plan)]
+    sys.stdout.write(page_of(names, data_of(names, grid, agents, paths, faults)))
+    if faults:
+        count = f"more than {MOST_FAULTS}" if len(faults) > MOST_FAULTS else str(len(faults))
+        print(f"draw: the plan isn't valid, faults: {count}; the page marks and lists them", file=sys.stderr)
+    return 0
+
+
+def words_given() -> argparse.Namespace:
+    """What the words of the call ask for."""
+    parser = problem_parser("draw", __doc__, EXAMPLE)
+    parser.add_argument("plan", metavar="PLAN", help="the plan")
+    add_options(parser)
+    return parser.parse_args()
+
+
+def all_faults(grid: Grid, agents: list[Agent], paths: list[list[Cell]]) -> Iterator[Fault]:
+    """All that is wrong with the plan, one after another: first of each agent, then each conflict, by tick."""
+    for agent, (task, path) in enumerate(zip(agents, paths)):
+        yield from faults_of_path(grid, agent, task, path)
+    for tick, here, there in ticks_of(paths):
+        if tick % 1000 == 0:
+            progress(f"looking for conflicts: tick {tick}")
+        yield from conflicts_at(tick, here, there)
+    clear_progress()
+
+
+def data_of(names: Sequence[str], grid: Grid, agents: Sequence[Agent], paths: Sequence[list[Cell]],
+            faults: Sequence[Fault]) -> dict[str, Any]:
+    """What the page knows, as short as it can be said."""
+    costs = [cost_of(path) for path in paths]
+    return {
+        "map": names[0],
+        "scenario": names[1],
+        "plan": names[2],
+        "width": grid.width,
+        "height": grid.height,
+        "blocked": blocked_bits(grid),
+        "cost": sum(costs),
+        "agents": [
+            {"colour": colour, "start": agent.start, "goal": agent.goal, "cost": cost, "path": moves_of(path)}
+            for colour, agent, cost, path in zip(colours(len(agents)), agents, costs, paths)],
+        "faults": [
+            {"kind": fault.kind, "agents": fault.agents, "tick": fault.tick, "cells": fault.cells, "words": fault.words}
+            for fault in sorted(faults[:MOST_FAULTS], key=lambda fault: fault.tick)],
+        "more": len(faults) > MOST_FAULTS,
+    }
+
+
+def blocked_bits(grid: Grid) -> str:
+    """A bit for each cell, row after row, in base64: 1 where it is blocked. The last byte is filled up with 0."""
+    bits = "".join("0" if grid.is_free((x, y)) else "1" for y in range(grid.height) for x in range(grid.width))
+    bits += "0" * (-len(bits) % 8)
+    return base64.b64encode(int(bits, 2).to_bytes(len(bits) // 8, "big")).decode()
+
+
+def moves_of(path: list[Cell]) -> str:
+    """A path as its first cell and its moves: '0,1wr2' waits in (0,1), and goes twice to the right. Where a step is
+    none of the five, the cell that it leads to stands behind '@'."""
+    path = cut_waits(path)
+    steps = [LETTERS.get((to_x - x, to_y - y), f"@{to_x},{to_y}") for (x, y), (to_x, to_y) in zip(path, path[1:])]
+    parts = ["%d,%d" % path[0]]
+    for step, equal in groupby(steps):
+        count = len(list(equal))
+        parts.append(step * count if step[0] == "@" or count == 1 else f"{step}{count}")
+    return "".join(parts)
+
+
+def page_of(names: Sequence[str], data: dict[str, Any]) -> str:
+    """The page, with its style, its script and the data in their places."""
+    compact = json.dumps(data, separators=(",", ":")).replace("<", "\\u003c")
+    texts = {
+        "TITLE": html.escape(f"{names[2]}: {len(data['agents'])} agents on {names[0]}"),
+        "STYLE": part("page.css"),
+        "DATA": compact,
+        "SCRIPT": "\n".join(part(name) for name in SCRIPTS),
+    }
+    return re.sub(r"\[(TITLE|STYLE|DATA|SCRIPT)\]", lambda found: texts[found[1]], part("page.html"))
+
+
+def part(name: str) -> str:
+    """A file of which the page is made."""
+    try:
+        return (PAGE / name).read_text(encoding="utf-8")
+    except OSError as error:
+        raise ToolError(f"{PAGE / name} can't be read, and the page is made of it: {error.strerror}") from None
+
+
+def command() -> NoReturn:
+    """Runs the tool with the words of the call."""
+    run_tool(main)

@@ -1,0 +1,206 @@
+"""Is another solver's answer really cheapest?
+
+    tools/verify MAP SCEN K ANSWER [OPTION ..]
+
+Reads the plan that another solver left, has `mapf check` judge it, has `mapf solve --search cbsh` search for a cheaper
+one, and has `mapf check` hold the certificate of that search against the other solver's plan. Each answer rests on
+`mapf check`.
+"""
+
+import argparse
+import contextlib
+import os
+import shutil
+import sys
+from typing import NoReturn
+
+from .answers import add_options, read_answer
+from .evidence import CERT, FOUND, MAP, PLAN, SCEN, Answer, Evidence, answer_of
+from .plans import Agent, Cell, Fault, faults_of, sum_of_costs
+from .process import ToolError, clear_progress, program, run_tool, signals_held, version_of
+from .texts import (MOST_SPLITS, number_between, plan_text, problem_parser, read_agents, read_bytes, read_map,
+                    seconds_of)
+
+# The status of each answer. NOT_VALID stands in place of NOT_CHEAPEST where --distinct-status asks for it.
+CHEAPEST, NOT_CHEAPEST, UNKNOWN, NOT_VALID = 0, 1, 4, 5
+
+# How many faults of a plan are told.
+MOST_TOLD = 10
+
+HELP = """
+The answers, each with its status:
+  cheapest: C                        0  the plan is valid, and no valid plan costs less
+  not cheapest: C, a plan of B ..    1  the plan is valid, and the one in the file named costs less
+  not valid: ..                      1  the plan isn't valid; faults are told, on a line of their own each, at most 10;
+                                        with --distinct-status the status is 5
+  within B..C, a certificate of B ..
+                                     4  the plan is valid and costs C, and no valid plan costs less than B, as the
+                                        certificate in the file named shows; the search met its limit: --limit allows
+                                        more splits, --seconds more time
+  unknown: C ..                      4  the plan is valid, and no search ended in the seconds that it had
+  a line on standard error           2  a file can't be read, and what to do
+
+The formats, which the first line tells:
+  paths  the path files of CBSH2-RTC, EECBS, PBS, MAPF-LNS:  Agent 0: (row,column)->(row,column)->
+         a line above them, as a count, and lines below them are left out
+  lacam  the logs of LaCAM and PIBT:                         solution=  and then, or alone,  0:(x,y),(x,y),
+  yaml   the schedules of libMultiRobotPlanning
+  plan   the plan texts of mapf
+
+Costs: an agent costs the ticks until it stays at its goal; waits at the end of its path cost nothing.
+
+What is done: the plan, written as a plan text, is checked beside the certificate of one leaf. That judges whether it
+is valid, and shows it cheapest where each agent has its least distance. Else mapf solve --search cbsh searches. The
+certificate of what it finds is of a cost, not of one plan: where the costs are equal, mapf check says 'optimal' of the
+other solver's plan beside it. Where the search meets its limit its certificate claims a bound. If the plan costs just
+that much, mapf check says 'optimal' of it beside that, and if it costs more, 'within B C'. Beside a certificate of
+version 2, which is written where mapf solve refuses what that search answers, mapf check says 'refused C4' of both: so
+the one line 'claim bound C' becomes 'claim cost C', of the same tree, for a plan of that cost. Nothing else is
+believed. With --seconds mapf solve is called with rising limits on splits, and the last call that ended in time counts.
+
+example:
+  tools/verify examples/random-32-32.map examples/random-32-32.scen 5 examples/random-32-32-answer.txt --keep shown
+says 'cheapest: 104'. The folder 'shown' has all that somebody else needs to see so with mapf check alone, and how.
+"""
+
+
+def main() -> int:
+    given = words()
+    texts = {MAP: read_bytes(given.map), SCEN: read_bytes(given.scen)}
+    grid = read_map(given.map, texts[MAP])
+    agents = read_agents(given.scen, grid, given.k, texts[SCEN])
+    paths = read_answer(given.answer, given.k, given.format, given.exchange_xy)
+    mapf = program()
+    version_of(mapf)
+    if given.keep:
+        make_folder(given.keep)
+    with contextlib.ExitStack() as at_end:
+        with signals_held():  # so that its folder is removed whenever a signal comes
+            evidence = at_end.enter_context(Evidence(mapf, given))
+        for name, text in texts.items():
+            evidence.write(name, text)
+        line, status = answer(evidence, agents, paths, faults_of(grid, agents, paths))
+        evidence.write_note(line)
+        if given.keep:
+            shutil.copytree(evidence.folder, given.keep, dirs_exist_ok=True)
+    clear_progress()
+    print(line, flush=True)
+    if evidence.is_named:
+        print(f"verify: {evidence.folder} stays, with that file and what shows the answer: remove it when you have read"
+              " it, or name a folder of your own by --keep", file=sys.stderr)
+    return NOT_VALID if given.distinct_status and line.startswith("not valid:") else status
+
+
+def words() -> argparse.Namespace:
+    """What the words of the call ask for."""
+    parser = problem_parser("verify", "Is another solver's answer really cheapest?", HELP)
+    parser.add_argument("answer", metavar="ANSWER", help="the other solver's answer")
+    add_options(parser)
+    parser.add_argument("--limit", metavar="N", type=number_between(0, MOST_SPLITS), default=1000,
+                        help=f"how many splits the search may make, 0 to {MOST_SPLITS:,}; 1000 unless told")
+    parser.add_argument("--seconds", metavar="T", type=seconds_of,
+                        help="how many seconds the search may take, by the clock; without it no limit")
+    parser.add_argument("--keep", metavar="FOLDER", help="a folder, new or empty, for what shows the answer")
+    parser.add_argument("--distinct-status", action="store_true",
+                        help=f"end with status {NOT_VALID} in place of {NOT_CHEAPEST} of a plan that isn't valid")
+    return parser.parse_args()
+
+
+def make_folder(folder: str) -> None:
+    """Makes the folder that --keep names, unless it is there and empty."""
+    try:
+        os.makedirs(folder, exist_ok=True)
+        is_empty = not os.listdir(folder)
+    except OSError as error:
+        raise ToolError(f"--keep: {folder} can't be made: {error.strerror}: name another folder") from None
+    if not is_empty:
+        raise ToolError(f"--keep: {folder} isn't empty: name a new folder")
+
+
+def answer(evidence: Evidence, agents: list[Agent], paths: list[list[Cell]], faults: list[Fault]) -> tuple[str, int]:
+    """What is printed, and the status."""
+    cost = sum_of_costs(paths)
+    evidence.write(PLAN, plan_text(paths))
+    evidence.write(CERT, f"mapf-cert 2\nagents {len(paths)}\nclaim cost {cost}\nleaf 0\nend\n")
+    verdict = evidence.check(PLAN)
+    is_refused = verdict.startswith(("refused C1 ", "refused C5 "))
+    if is_refused != bool(faults):
+        raise ToolError(f"mapf check says '{verdict}' of a plan in which this tool finds {len(faults)} faults: one of "
+                        "them is wrong, so please report it")
+    if is_refused:
+        evidence.show(PLAN, verdict, "the plan isn't valid, whatever the certificate")
+        return "\n".join(["not valid: " + faults[0].words, *also(faults[1:]), *advice(agents, paths)]), NOT_CHEAPEST
+    if verdict == f"optimal {cost}":
+        evidence.show(PLAN, verdict, "the plan is valid, and no agent costs more than its least distance")
+        return f"cheapest: {cost}", CHEAPEST
+    return search(evidence, cost, verdict)
+
+
+def also(faults: list[Fault]) -> list[str]:
+    """Lines for the faults after the first."""
+    lines = ["and " + fault.words for fault in faults[:MOST_TOLD - 1]]
+    more = len(faults) - len(lines)
+    return lines + [f"and {more} more"] * (more > 0)
+
+
+def advice(agents: list[Agent], paths: list[list[Cell]]) -> list[str]:
+    """Where each agent begins elsewhere, what is likely to be mended."""
+    begins = [(path[0], task.start) for path, task in zip(paths, agents)]
+    if any(cell == start for cell, start in begins):
+        return []
+    if all((y, x) == start for (x, y), start in begins):
+        return ["with x and y exchanged each agent begins at its start: see whether the format is the right one, or add "
+                "--exchange-xy"]
+    return ["no agent begins at its start: see whether MAP and SCEN are those of the answer"]
+
+
+def search(evidence: Evidence, cost: int, verdict: str) -> tuple[str, int]:
+    """The answer on a valid plan of which one leaf doesn't show that it is cheapest: that was the verdict beside it."""
+    found = evidence.solve(cost)
+    if found is None:
+        evidence.show(PLAN, verdict, "the plan is valid, and one leaf doesn't show that it is cheapest")
+        return f"unknown: {cost} ({evidence.limit_met('')})", UNKNOWN
+    known = answer_of(found)
+    if known is None or known.least > cost:
+        raise ToolError(f"mapf solve says '{found}', and mapf check that a plan of {cost} is valid: one of them is "
+                        "wrong, so please report it")
+    least = known.least
+    if least == cost:
+        if evidence.check(PLAN) != f"optimal {cost}":
+            evidence.claim_cost(cost)
+        evidence.show(PLAN, f"optimal {cost}", "the plan is valid, and no valid plan costs less")
+        evidence.remove(FOUND)
+        return f"cheapest: {cost}", CHEAPEST
+    show_dearer(evidence, cost, least)
+    show_found(evidence, known)
+    if known.cost is not None and known.cost < cost:
+        return f"not cheapest: {cost}, a plan of {known.cost} is in {evidence.given_place(FOUND)}", NOT_CHEAPEST
+    place = evidence.given_place(CERT)
+    return f"within {least}..{cost}, a certificate of {least} is in {place} ({evidence.limit_met(found)})", UNKNOWN
+
+
+def show_found(evidence: Evidence, known: Answer) -> None:
+    """Notes what mapf check says of what the search found."""
+    if known.cost is None:
+        evidence.show(FOUND, f"bound {known.least}", "no valid plan costs less than that")
+    elif known.cost == known.least:
+        evidence.show(FOUND, f"optimal {known.cost}", "this plan is valid and costs less, and no valid plan less than it")
+    else:
+        evidence.show(FOUND, f"within {known.least} {known.cost}",
+                      f"this plan is valid and costs {known.cost}, and no valid plan costs less than {known.least}")
+
+
+def show_dearer(evidence: Evidence, cost: int, least: int) -> None:
+    """Notes what mapf check says of a valid plan beside a certificate that claims less. Only one of version 3 with a
+    bound fits such a plan.
+    """
+    within = f"within {least} {cost}"
+    if evidence.check(PLAN) == within:
+        evidence.show(PLAN, within, f"the plan is valid and costs {cost}, and no valid plan costs less than {least}")
+    else:
+        evidence.show(PLAN, "refused C4", f"the plan is valid, and its cost, {cost}, isn't the one that is claimed")
+
+
+def command() -> NoReturn:
+    """Runs the tool with the words of the call."""
+    run_tool(main)
