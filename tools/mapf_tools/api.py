@@ -9,6 +9,7 @@ from pathlib import Path
 from . import recheck
 from .answers import read_answer
 from .draw import data_of, page_of
+from .pictures import Scene, gif_of, png_of
 from .plans import Agent, Cell, Fault, Grid, faults_of
 from .process import ToolError
 from .texts import read_agents
@@ -91,3 +92,18 @@ def draw_page(grid: Grid, agents: Sequence[Agent], plan: Sequence[list[Cell]],
     """A page of HTML that plays the plan and marks its faults. The names are those that it shows of the three texts."""
     faults = faults_of_plan(grid, agents, plan)
     return page_of(names, data_of(names, grid, agents, plan, faults))
+
+
+def draw_picture(grid: Grid, agents: Sequence[Agent], plan: Sequence[list[Cell]], tick: int) -> bytes:
+    """A picture of a tick of the plan, as PNG."""
+    return png_of(scene_of(grid, agents, plan), tick)
+
+
+def draw_film(grid: Grid, agents: Sequence[Agent], plan: Sequence[list[Cell]]) -> bytes:
+    """A film of the plan, as GIF."""
+    return b"".join(gif_of(scene_of(grid, agents, plan)))
+
+
+def scene_of(grid: Grid, agents: Sequence[Agent], plan: Sequence[list[Cell]]) -> Scene:
+    """What is drawn of a plan."""
+    return Scene(grid, agents, plan, faults_of_plan(grid, agents, plan))

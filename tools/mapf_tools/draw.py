@@ -1,4 +1,4 @@
-"""Draws a plan: writes one page that stands alone, to be opened in a browser."""
+"""Draws a plan: writes one page that stands alone, to be opened in a browser, or a picture or film of the plan."""
 
 import argparse
 import base64
@@ -13,9 +13,10 @@ from typing import Any, NoReturn
 
 from .answers import add_options, read_answer
 from .colours import colours
+from .pictures import Scene, gif_of, png_of
 from .plans import Agent, Cell, Fault, Grid, conflicts_at, cost_of, cut_waits, faults_of_path, ticks_of
 from .process import ToolError, clear_progress, progress, run_tool
-from .texts import problem_parser, read_agents, read_map
+from .texts import number_between, problem_parser, read_agents, read_map
 
 # What the page is made of.
 PAGE = Path(__file__).resolve().parent / "page"
@@ -24,6 +25,9 @@ SCRIPTS = "plan.js", "map.js", "page.js"
 # How many faults of a plan the page lists.
 MOST_FAULTS = 1000
 
+# The greatest tick of which a picture may be asked for.
+MOST_TICK = 9_999_999
+
 LETTERS = {(1, 0): "r", (-1, 0): "l", (0, 1): "d", (0, -1): "u", (0, 0): "w"}
 
 EXAMPLE = """PLAN is a plan text, as mapf solve writes it, or what another solver left: all that tools/verify reads.
@@ -31,29 +35,46 @@ EXAMPLE = """PLAN is a plan text, as mapf solve writes it, or what another solve
 example:
   ./mapf solve examples/random-32-32.map examples/random-32-32.scen 8 100 plan.txt cert.txt
   tools/draw examples/random-32-32.map examples/random-32-32.scen 8 plan.txt > plan.html
+  tools/draw examples/random-32-32.map examples/random-32-32.scen 8 plan.txt --gif > plan.gif
 
 The page needs no network and no other file. Behind '#' the page's address may name the tick at which it opens,
 and an agent to be picked: plan.html#tick=12&agent=3
 
 exit status:
-  0    the page is written; also of a plan that isn't valid, whose faults it marks and lists
+  0    the page, picture or film is written; also of a plan that isn't valid, whose faults it marks
   2    an error, with a message on standard error"""
 
 
 def main() -> int:
     words = words_given()
+    kind = "gif" if words.gif else "html" if words.png is None else "png"
     if sys.stdout.isatty():
-        raise ToolError("the page would fill this terminal: end the command with > plan.html")
+        raise ToolError(f"what is drawn would fill this terminal: end the command with > plan.{kind}")
     grid = read_map(words.map)
     agents = read_agents(words.scen, grid, words.k)
     paths = read_answer(words.plan, words.k, words.format, words.exchange_xy)
     faults = list(islice(all_faults(grid, agents, paths), MOST_FAULTS + 1))
     names = [Path(name).name for name in (words.map, words.scen, words.plan)]
-    sys.stdout.write(page_of(names, data_of(names, grid, agents, paths, faults)))
+    if kind == "html":
+        sys.stdout.write(page_of(names, data_of(names, grid, agents, paths, faults)))
+    else:
+        write_picture(Scene(grid, agents, paths, faults), words.png)
     if faults:
         count = f"more than {MOST_FAULTS}" if len(faults) > MOST_FAULTS else str(len(faults))
-        print(f"draw: the plan isn't valid, faults: {count}; the page marks and lists them", file=sys.stderr)
+        done = "the page marks and lists them" if kind == "html" else "a page, without an option, lists them"
+        print(f"draw: the plan isn't valid, faults: {count}; {done}", file=sys.stderr)
     return 0
+
+
+def write_picture(scene: Scene, tick: int | None) -> None:
+    """Writes the picture of a tick, or the film of all ticks where none is named."""
+    if tick is not None:
+        sys.stdout.buffer.write(png_of(scene, tick))
+        return
+    for number, part in enumerate(gif_of(scene)):
+        progress(f"drawing: tick {number} of {scene.ticks() - 1}")
+        sys.stdout.buffer.write(part)
+    clear_progress()
 
 
 def words_given() -> argparse.Namespace:
@@ -61,6 +82,11 @@ def words_given() -> argparse.Namespace:
     parser = problem_parser("draw", __doc__, EXAMPLE)
     parser.add_argument("plan", metavar="PLAN", help="the plan")
     add_options(parser)
+    pictures = parser.add_mutually_exclusive_group()
+    pictures.add_argument("--png", metavar="TICK", type=number_between(0, MOST_TICK),
+                          help="in place of the page a picture of this tick, as PNG")
+    pictures.add_argument("--gif", action="store_true",
+                          help="in place of the page a film, as GIF, of four ticks in a second")
     return parser.parse_args()
 
 
