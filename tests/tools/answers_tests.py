@@ -21,9 +21,12 @@ TOOLS = TESTS.parent / "tools"
 TICKS = 200_000
 MOST_BYTES = 256 << 20
 
+# Starts of two agents, on which no answer depends here.
+STARTS = [(0, 0), (0, 1)]
+
 # Reads an answer of two agents with little memory, and prints the sum of the ticks and the last cells.
 READS = ("import resource, sys; resource.setrlimit(resource.RLIMIT_AS, (int(sys.argv[2]),) * 2); "
-         "from mapf_tools.answers import read_answer; paths = read_answer(sys.argv[1], 2); "
+         "from mapf_tools.answers import read_answer; paths = read_answer(sys.argv[1], [(0, 0), (0, 1)]); "
          "print(sum(map(len, paths)), *(path[-1] for path in paths))")
 
 
@@ -80,7 +83,7 @@ def digits_faults(folder):
                  f"schedule:\n  agent0:\n    - x: {many}\n      y: 0\n      t: 0\n"):
         (folder / "digits").write_text(text)
         try:
-            faults.append(f"{text[:40]} is {read_answer(folder / 'digits', 1)}")
+            faults.append(f"{text[:40]} is {read_answer(folder / 'digits', [(0, 0)])}")
         except ToolError as error:
             faults += [] if len(str(error)) < 400 else [f"{text[:40]} has an error of {len(str(error))} letters"]
     return faults
@@ -90,11 +93,12 @@ def plan_faults(folder):
     """Each format gives the same plan text, and other bytes stay as they are."""
     paths = [[(0, 1), (0, 1), (1, 1)], [(5, 5), (5, 4)]]
     texts = spelled(paths)
-    faults = [name for name, text in texts.items() if as_plan_text(name, text.encode(), 2).decode() != texts["plan"]]
+    faults = [name for name, text in texts.items()
+              if as_plan_text(name, text.encode(), STARTS).decode() != texts["plan"]]
     if plan_text(paths) != texts["plan"]:
         faults.append("the plan text differs")
     for data in (b"", b"\n", b"#\n", b"mapf-plan 3\n", b"\xff\x00", b"version 1\n"):
-        faults += [] if as_plan_text("data", data, 2) == data else [f"{data} becomes another text"]
+        faults += [] if as_plan_text("data", data, STARTS) == data else [f"{data} becomes another text"]
     return faults
 
 

@@ -102,7 +102,7 @@ def misuse_faults():
 
 
 def wheel_faults(folder):
-    """The wheel has each file of the package with its checksum, and is made of the source archive with the same bytes."""
+    """The wheel has each file of the package with its checksum, and the source archive gives the same bytes."""
     wheel = built_in(folder / "one", build_package.build_wheel)
     source = built_in(folder / "source", build_package.build_sdist)
     shutil.unpack_archive(source, folder / "unpacked", filter="data") if sys.version_info >= (3, 12) else (

@@ -6,27 +6,32 @@ paths   the path files of CBSH2-RTC, EECBS, PBS and MAPF-LNS: for each agent a l
 lacam   the logs of LaCAM and PIBT: lines `name=value`, among them `solution=`, and then for each tick a line
         `0:(x,y),(x,y),` with a cell for each agent; or these lines alone
 yaml    the schedules of libMultiRobotPlanning, which schedules.py reads
+moves   lines of moves, and
+json    plans in JSON, both of which moves.py reads
 plan    plan texts of mapf
 """
 
 import argparse
 import re
+from collections.abc import Sequence
 from itertools import islice
 from pathlib import Path
 
+from .moves import LINE, read_json, read_moves
 from .plans import Cell, cut_waits
 from .process import ToolError
 from .schedules import read_schedule
 from .texts import Cells, Text, plan_text, read_bytes, read_plan, shortened
 
-FORMATS = "paths", "lacam", "yaml", "plan"
+FORMATS = "paths", "lacam", "yaml", "moves", "json", "plan"
 
 CELL = r"\((-?[0-9]{1,10}),(-?[0-9]{1,10})\)"
 AGENT = re.compile(r"\s*Agent\s+([0-9]{1,10})\s*:(.*)")
 TICK_0 = r"\s*0\s*:\s*\("
 
 # How the first line of each format begins.
-BEGINNINGS = {"paths": AGENT.pattern, "lacam": rf"\w+=|{TICK_0}", "yaml": r"\w+:", "plan": "mapf-plan "}
+BEGINNINGS = {"paths": AGENT.pattern, "lacam": rf"\w+=|{TICK_0}", "yaml": r"\w+:", "moves": LINE, "json": r"\s*[\[{]",
+              "plan": "mapf-plan "}
 
 
 def add_options(parser: argparse.ArgumentParser) -> None:
@@ -34,38 +39,51 @@ def add_options(parser: argparse.ArgumentParser) -> None:
     parser.add_argument("--format", choices=FORMATS, help="the answer's format, if the first line doesn't tell it")
     parser.add_argument("--exchange-xy", action="store_true",
                         help="exchange x and y of each cell, if the solver wrote them the other way round")
+    parser.add_argument("--exchange-ud", action="store_true",
+                        help="exchange up and down of moves, if the solver counts rows from below")
 
 
-def read_answer(path: str | Path, count: int, name: str | None = None, is_exchanged: bool = False) -> list[list[Cell]]:
-    """The paths of so many agents in their order, without waits at their ends. Unless the format is named it is told
-    by the first line.
+def read_answer(path: str | Path, starts: Sequence[Cell], name: str | None = None, is_exchanged: bool = False,
+                is_mirrored: bool = False) -> list[list[Cell]]:
+    """The paths of agents with these starts, in their order, without waits at their ends. Unless the format is named it
+    is told by the first line. x and y may be exchanged, and of moves up and down.
     """
-    paths = paths_in(path, read_bytes(path), count, name)
+    paths = paths_in(path, read_bytes(path), exchanged(starts) if is_exchanged else starts, name)
+    paths = list(map(mirrored, paths)) if is_mirrored else paths
     return list(map(exchanged, paths)) if is_exchanged else paths
 
 
-def exchanged(path: list[Cell]) -> list[Cell]:
+def mirrored(path: list[Cell]) -> list[Cell]:
+    """The path with up and down exchanged of each move."""
+    row = path[0][1]
+    return [(x, 2 * row - y) for x, y in path]
+
+
+def exchanged(path: Sequence[Cell]) -> list[Cell]:
     """The path with x and y of each cell exchanged."""
     others = {(x, y): (y, x) for x, y in set(path)}
     return [others[cell] for cell in path]
 
 
-def paths_in(path: str | Path, data: bytes, count: int, name: str | None = None) -> list[list[Cell]]:
-    """The paths of so many agents in the bytes of a file."""
+def paths_in(path: str | Path, data: bytes, starts: Sequence[Cell], name: str | None = None) -> list[list[Cell]]:
+    """The paths of agents with these starts in the bytes of a file."""
     text = text_of(path, data)
     if not any(text.lines):
         raise ToolError(f"{path} is empty: let the solver write its answer there")
     name = name or format_of(text)
     if name is None:
         raise no_format(text)
-    paths = read_own(path, data) if name == "plan" else READERS[name](text)
-    return [cut_waits(paths[agent]) for agent in numbered(text, paths, count)]
+    if name == "plan":
+        paths = read_own(path, data)
+    else:
+        paths = READERS[name](text) if name in READERS else READERS_OF_MOVES[name](text, starts)
+    return [cut_waits(paths[agent]) for agent in numbered(text, paths, len(starts))]
 
 
-def as_plan_text(path: str | Path, data: bytes, count: int) -> bytes:
+def as_plan_text(path: str | Path, data: bytes, starts: Sequence[Cell]) -> bytes:
     """An answer of another solver as a plan text of mapf. A plan text, and what has no format, stays as it is."""
     is_foreign = format_of(text_of(path, data)) not in (None, "plan")
-    return plan_text(paths_in(path, data, count)).encode() if is_foreign else data
+    return plan_text(paths_in(path, data, starts)).encode() if is_foreign else data
 
 
 def text_of(path: str | Path, data: bytes) -> Text:
@@ -178,3 +196,4 @@ def read_own(path: str | Path, data: bytes) -> dict[int, list[Cell]]:
 
 
 READERS = {"paths": read_paths, "lacam": read_lacam, "yaml": read_schedule}
+READERS_OF_MOVES = {"moves": read_moves, "json": read_json}

@@ -48,7 +48,7 @@ def read_plan(path: str | Path, agents: Sequence[Agent], name: str | None = None
     """The plan in a file, in each format that tools/verify reads. Unless the format is named, the first line tells it.
     x and y are exchanged, if so asked.
     """
-    return read_answer(path, len(agents), name, is_exchanged)
+    return read_answer(path, [agent.start for agent in agents], name, is_exchanged)
 
 
 def faults_of_plan(grid: Grid, agents: Sequence[Agent], plan: Sequence[list[Cell]]) -> list[Fault]:

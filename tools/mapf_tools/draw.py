@@ -52,7 +52,8 @@ def main() -> int:
         raise ToolError(f"what is drawn would fill this terminal: end the command with > plan.{kind}")
     grid = read_map(words.map)
     agents = read_agents(words.scen, grid, words.k)
-    paths = read_answer(words.plan, words.k, words.format, words.exchange_xy)
+    starts = [agent.start for agent in agents]
+    paths = read_answer(words.plan, starts, words.format, words.exchange_xy, words.exchange_ud)
     faults = list(islice(all_faults(grid, agents, paths), MOST_FAULTS + 1))
     names = [Path(name).name for name in (words.map, words.scen, words.plan)]
     if kind == "html":

@@ -35,8 +35,8 @@ def rising_to(limit: int) -> list[int]:
 
 @dataclass(frozen=True)
 class Answer:
-    """What `mapf solve` printed: what no valid plan costs less than, and the cost of the plan that it wrote, if it wrote
-    one. The two are equal where the plan is cheapest.
+    """What `mapf solve` printed: what no valid plan costs less than, and the cost of the plan that it wrote, if it
+    wrote one. The two are equal where the plan is cheapest.
     """
 
     line: str
@@ -59,13 +59,48 @@ def answer_of(line: str) -> Answer | None:
     return None
 
 
+class Searches:
+    """What the last search of a call found, for the next answer to the same problem, in a folder that is removed at the
+    end.
+    """
+
+    def __init__(self) -> None:
+        self.line: str | None = None
+        self.origin = ""
+        self.folder = Path(tempfile.mkdtemp(prefix="mapf-verify-"))
+
+    def __enter__(self) -> "Searches":
+        return self
+
+    def __exit__(self, *_: object) -> None:
+        with signals_held():
+            shutil.rmtree(self.folder, ignore_errors=True)
+
+    def serve(self, cost: int, is_timed: bool) -> bool:
+        """Whether another search would find no more for a plan of this cost. One in a time of its own might."""
+        known = answer_of(self.line or "")
+        return known is not None and (not is_timed or known.says_more_than(cost))
+
+    def keep(self, line: str, origin: str, folder: Path) -> None:
+        """Keeps what a search left in this folder."""
+        self.line, self.origin = line, origin
+        copy_found(folder, self.folder)
+
+
+def copy_found(here: Path, there: Path) -> None:
+    """Copies the files that a search wrote."""
+    for name in (FOUND, CERT):
+        shutil.copyfile(here / name, there / name)
+
+
 class Evidence:
     """A folder with what shows an answer, and the note of the commands that show it. It is removed at the end, unless
     the answer names a file in it.
     """
 
-    def __init__(self, mapf: str, given: argparse.Namespace) -> None:
+    def __init__(self, mapf: str, given: argparse.Namespace, searches: Searches | None = None) -> None:
         self.mapf = mapf
+        self.searches = searches
         self.agents: int = given.k
         self.limit: int = given.limit
         self.seconds: float | None = given.seconds
@@ -114,9 +149,20 @@ class Evidence:
         self.steps.append((" ".join(["mapf", *self.words_of_check(plan)]), verdict, meaning))
 
     def solve(self, cost: int) -> str | None:
-        """Searches for a plan of less than this cost or for a bound that is as high, and answers the line of the last
-        search that ended in time, none where none did.
+        """Searches for a plan of less than this cost or for a bound that is as high, unless an earlier search serves,
+        and answers the line of the last search that ended in time, none where none did.
         """
+        if self.searches and self.searches.serve(cost, self.seconds is not None):
+            copy_found(self.searches.folder, self.folder)
+            self.origin = self.searches.origin
+            return self.searches.line
+        line = self.search(cost)
+        if self.searches and line:
+            self.searches.keep(line, self.origin, self.folder)
+        return line
+
+    def search(self, cost: int) -> str | None:
+        """Searches, as `solve` says."""
         if self.seconds is None:
             return self.solve_with(self.limit, None)
         until = time.monotonic() + self.seconds

@@ -1,5 +1,5 @@
-"""Images of at most 256 colours as files: PNG, and GIF with several frames. A pixel is one byte, the number of its colour
-in the palette.
+"""Images of at most 256 colours as files: PNG, and GIF with several frames. A pixel is one byte, the number of its
+colour in the palette.
 """
 
 import struct

@@ -9,7 +9,8 @@ from .colours import colours
 from .image_files import Colour, Image, gif, png
 from .plans import Agent, Cell, Fault, Grid
 
-# The colours before those of the agents, by their numbers. No pixel has that of KEPT: it stands for what stays as it was.
+# The colours before those of the agents, by their numbers. No pixel has that of KEPT: it stands for what stays as it
+# was.
 FREE, BLOCKED, RULE, DARK, LIGHT, WRONG, KEPT = range(7)
 GROUND: list[Colour] = [(255, 255, 255), (86, 90, 97), (226, 228, 232), (20, 20, 20), (255, 255, 255), (214, 0, 28),
                         (0, 0, 0)]

@@ -456,7 +456,7 @@ def judged(files: list[int], agents: int, plan: str, judge_type: type[AnyTree]) 
     """The answer that both texts tell, and what judged the tree, which is of this type."""
     grid = read_map(read_whole(files[0], "map"))
     starts, goals = read_scenario(read_whole(files[1], "scen"), grid, agents)
-    text = plan_text_of(read_whole(files[2], "plan"), agents, plan)
+    text = plan_text_of(read_whole(files[2], "plan"), starts, plan)
     told_agents, (kind, number), paths = read_plan(text, grid)
     refuse_if(told_agents != agents, "C3")
     refuse_if(kind == "limit", "C4")
@@ -466,12 +466,12 @@ def judged(files: list[int], agents: int, plan: str, judge_type: type[AnyTree]) 
         "cert", lambda: judge_cert(open(files[3], "rb", closefd=False), told, grid, starts, goals, judge_type))
 
 
-def plan_text_of(text: bytes, agents: int, path: str) -> bytes:
+def plan_text_of(text: bytes, starts: list[Cell], path: str) -> bytes:
     """What another solver left as a plan text. Other texts stay as they are."""
     if text.startswith(b"mapf-plan "):
         return text
     try:
-        return as_plan_text(path, text, agents)
+        return as_plan_text(path, text, starts)
     except ToolError as error:
         raise Fault(f"recheck: {error}") from None
 

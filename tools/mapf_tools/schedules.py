@@ -1,5 +1,5 @@
-"""The schedules of libMultiRobotPlanning: YAML whose lines have one form, so that they are read without a parser of YAML.
-Below `schedule:` stands for each agent a line `agent0:`, and below it for each tick an entry
+"""The schedules of libMultiRobotPlanning: YAML whose lines have one form, so that they are read without a parser of
+YAML. Below `schedule:` stands for each agent a line `agent0:`, and below it for each tick an entry
 
     - x: 3
       y: 4
@@ -92,10 +92,11 @@ class Schedule:
         name, colon, value = part.partition(":")
         name, value = name.strip("\"' "), value.strip()
         if colon and not value and name not in ("x", "y", "t"):
-            raise ToolError(f"{self.text.path}, line {number}: {shortened(name)} has to be 'agentN' with a list of x, y "
-                            "and t")
+            raise ToolError(f"{self.text.path}, line {number}: {shortened(name)} has to be 'agentN' with a list of x, "
+                            "y and t")
         if self.entry is None or not value:
-            raise self.text.fault(number, "'x: N', 'y: N' or 't: N' of an entry stands here: see whether the file is whole")
+            raise self.text.fault(number, "'x: N', 'y: N' or 't: N' of an entry stands here: see whether the file is "
+                                          "whole")
         if name in self.entry:
             raise self.text.fault(number, f"the entry has two values of {name}: leave one of them")
         self.entry[name] = value
@@ -124,4 +125,5 @@ class Schedule:
         """Ends the path of the agent that is being read, if there is one."""
         self.end_entry()
         if self.name is not None and not self.path:
-            raise ToolError(f"{self.text.path}, 'schedule:': '{self.name}' has to be 'agentN' with a list of x, y and t")
+            raise ToolError(f"{self.text.path}, 'schedule:': '{self.name}' has to be 'agentN' with a list of x, y and "
+                            "t")

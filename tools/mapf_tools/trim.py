@@ -15,8 +15,8 @@ from .plans import Cell
 from .process import ToolError, clear_progress, progress, run_tool
 from .texts import problem_parser
 
-EPILOG = """It takes certificates of versions 1 and 2. What is left out, so that mapf check accepts what is left as it accepts the
-whole:
+EPILOG = """It takes certificates of versions 1 and 2. What is left out, so that mapf check accepts what is left as it
+accepts the whole:
   - what stands below a node whose own labels show the claim: the node becomes a leaf
   - blocks that no leaf needs, and of the others the entries on which the start's doesn't rest; a label that is greater
     than the leaves need is made less

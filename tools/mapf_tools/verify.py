@@ -12,17 +12,23 @@ import contextlib
 import os
 import shutil
 import sys
+from dataclasses import dataclass
+from pathlib import Path
 from typing import NoReturn
 
 from .answers import add_options, read_answer
-from .evidence import CERT, FOUND, MAP, PLAN, SCEN, Answer, Evidence, answer_of
-from .plans import Agent, Cell, Fault, faults_of, sum_of_costs
+from .evidence import CERT, FOUND, MAP, PLAN, SCEN, Answer, Evidence, Searches, answer_of
+from .plans import Agent, Cell, Fault, Grid, faults_of, sum_of_costs
 from .process import ToolError, clear_progress, program, run_tool, signals_held, version_of
+from .sweep_rows import natural
 from .texts import (MOST_SPLITS, number_between, plan_text, problem_parser, read_agents, read_bytes, read_map,
                     seconds_of)
 
 # The status of each answer. NOT_VALID stands in place of NOT_CHEAPEST where --distinct-status asks for it.
-CHEAPEST, NOT_CHEAPEST, UNKNOWN, NOT_VALID = 0, 1, 4, 5
+CHEAPEST, NOT_CHEAPEST, NOT_JUDGED, UNKNOWN, NOT_VALID = 0, 1, 2, 4, 5
+
+# Of the answers in a folder, the first of these that one has is the status.
+WORST_FIRST = NOT_JUDGED, NOT_CHEAPEST, NOT_VALID, UNKNOWN, CHEAPEST
 
 # How many faults of a plan are told.
 MOST_TOLD = 10
@@ -45,7 +51,13 @@ The formats, which the first line tells:
          a line above them, as a count, and lines below them are left out
   lacam  the logs of LaCAM and PIBT:                         solution=  and then, or alone,  0:(x,y),(x,y),
   yaml   the schedules of libMultiRobotPlanning
+  moves  for each agent a line of moves:                     rrdw  or  R,R,D,W, where w is a wait
+  json   a list of paths of cells [x, y], a schedule as in yaml, or what the League of Robot Runners writes: its
+         'actualPaths', of the action model MAPF
   plan   the plan texts of mapf
+
+ANSWER may be a folder. Then each file in it is an answer to the problem, and each line begins with the file's name. A
+search serves all of them. The status is 2 if one of them has it, else 1, else 5, else 4, else 0.
 
 Costs: an agent costs the ticks until it stays at its goal; waits at the end of its path cost nothing.
 
@@ -64,37 +76,100 @@ says 'cheapest: 104'. The folder 'shown' has all that somebody else needs to see
 """
 
 
+@dataclass(frozen=True)
+class Problem:
+    """The texts of a map and of a scenario, and what they tell."""
+
+    texts: dict[str, bytes]
+    grid: Grid
+    agents: list[Agent]
+
+
 def main() -> int:
     given = words()
     texts = {MAP: read_bytes(given.map), SCEN: read_bytes(given.scen)}
     grid = read_map(given.map, texts[MAP])
-    agents = read_agents(given.scen, grid, given.k, texts[SCEN])
-    paths = read_answer(given.answer, given.k, given.format, given.exchange_xy)
-    mapf = program()
-    version_of(mapf)
+    problem = Problem(texts, grid, read_agents(given.scen, grid, given.k, texts[SCEN]))
+    if os.path.isdir(given.answer):
+        return verify_folder(given, problem)
+    paths = paths_of(given, problem)
+    mapf = tested_program()
     if given.keep:
         make_folder(given.keep)
+    line, status, stays = verify(mapf, given, problem, paths)
+    print(line, flush=True)
+    tell_of_folder(stays)
+    return status
+
+
+def tested_program() -> str:
+    """The command of mapf, which was asked for its version."""
+    mapf = program()
+    version_of(mapf)
+    return mapf
+
+
+def verify_folder(given: argparse.Namespace, problem: Problem) -> int:
+    """Judges each answer of a folder. Answers the status of all."""
+    names = sorted((path.name for path in Path(given.answer).iterdir() if path.is_file() and path.name[0] != "."),
+                   key=natural)
+    if not names:
+        raise ToolError(f"{given.answer} holds no file: let the solver write its answers there")
+    mapf = tested_program()
+    if given.keep:
+        make_folder(given.keep)
+    found: set[int] = set()
+    with contextlib.ExitStack() as at_end:
+        with signals_held():
+            searches = at_end.enter_context(Searches())
+        for name in names:
+            own = argparse.Namespace(**vars(given))
+            own.answer, own.keep = os.path.join(given.answer, name), given.keep and os.path.join(given.keep, name)
+            try:
+                line, status, stays = verify(mapf, own, problem, paths_of(own, problem), searches)
+            except ToolError as error:
+                line, status, stays = f"not judged: {error}", NOT_JUDGED, None
+            clear_progress()
+            print("\n".join(f"{name}: {part}" for part in line.split("\n")), flush=True)
+            tell_of_folder(stays)
+            found.add(status)
+    return next(status for status in WORST_FIRST if status in found)
+
+
+def paths_of(given: argparse.Namespace, problem: Problem) -> list[list[Cell]]:
+    """The paths of an answer."""
+    starts = [agent.start for agent in problem.agents]
+    return read_answer(given.answer, starts, given.format, given.exchange_xy, given.exchange_ud)
+
+
+def verify(mapf: str, given: argparse.Namespace, problem: Problem, paths: list[list[Cell]],
+           searches: Searches | None = None) -> tuple[str, int, Path | None]:
+    """What is printed of an answer, the status, and the folder that stays, if one does."""
     with contextlib.ExitStack() as at_end:
         with signals_held():  # so that its folder is removed whenever a signal comes
-            evidence = at_end.enter_context(Evidence(mapf, given))
-        for name, text in texts.items():
+            evidence = at_end.enter_context(Evidence(mapf, given, searches))
+        for name, text in problem.texts.items():
             evidence.write(name, text)
-        line, status = answer(evidence, agents, paths, faults_of(grid, agents, paths))
+        line, status = answer(evidence, problem.agents, paths, faults_of(problem.grid, problem.agents, paths))
         evidence.write_note(line)
         if given.keep:
             shutil.copytree(evidence.folder, given.keep, dirs_exist_ok=True)
     clear_progress()
-    print(line, flush=True)
-    if evidence.is_named:
-        print(f"verify: {evidence.folder} stays, with that file and what shows the answer: remove it when you have read"
-              " it, or name a folder of your own by --keep", file=sys.stderr)
-    return NOT_VALID if given.distinct_status and line.startswith("not valid:") else status
+    is_not_valid = given.distinct_status and line.startswith("not valid:")
+    return line, NOT_VALID if is_not_valid else status, evidence.folder if evidence.is_named else None
+
+
+def tell_of_folder(folder: Path | None) -> None:
+    """Says which folder stays, if one does."""
+    if folder is not None:
+        print(f"verify: {folder} stays, with that file and what shows the answer: remove it when you have read it, or "
+              "name a folder of your own by --keep", file=sys.stderr)
 
 
 def words() -> argparse.Namespace:
     """What the words of the call ask for."""
     parser = problem_parser("verify", "Is another solver's answer really cheapest?", HELP)
-    parser.add_argument("answer", metavar="ANSWER", help="the other solver's answer")
+    parser.add_argument("answer", metavar="ANSWER", help="the other solver's answer, or a folder of answers")
     add_options(parser)
     parser.add_argument("--limit", metavar="N", type=number_between(0, MOST_SPLITS), default=1000,
                         help=f"how many splits the search may make, 0 to {MOST_SPLITS:,}; 1000 unless told")
@@ -149,8 +224,8 @@ def advice(agents: list[Agent], paths: list[list[Cell]]) -> list[str]:
     if any(cell == start for cell, start in begins):
         return []
     if all((y, x) == start for (x, y), start in begins):
-        return ["with x and y exchanged each agent begins at its start: see whether the format is the right one, or add "
-                "--exchange-xy"]
+        return ["with x and y exchanged each agent begins at its start: see whether the format is the right one, or "
+                "add --exchange-xy"]
     return ["no agent begins at its start: see whether MAP and SCEN are those of the answer"]
 
 
@@ -184,7 +259,8 @@ def show_found(evidence: Evidence, known: Answer) -> None:
     if known.cost is None:
         evidence.show(FOUND, f"bound {known.least}", "no valid plan costs less than that")
     elif known.cost == known.least:
-        evidence.show(FOUND, f"optimal {known.cost}", "this plan is valid and costs less, and no valid plan less than it")
+        evidence.show(FOUND, f"optimal {known.cost}",
+                      "this plan is valid and costs less, and no valid plan less than it")
     else:
         evidence.show(FOUND, f"within {known.least} {known.cost}",
                       f"this plan is valid and costs {known.cost}, and no valid plan costs less than {known.least}")
