@@ -11,6 +11,9 @@ was, and no run that is in results.csv is made again, but with --again those tha
 search of one program, which settings.json names by its version and its checksum. A run keeps its certificate in OUT
 until it ends: many splits on a large map take gigabytes.
 
+With --beside the plots show other solvers or searches too. Their tables need the columns map, scenario, agents, status
+('solved' or another word) and solve_seconds; results.csv of another sweep is one.
+
 With --gap it asks instead how far the plans of --search cbsh may be from the cheapest: each scenario is tried with each
 number of agents, for the first plan, the quick answer and the answer after so many seconds.
 
@@ -40,7 +43,8 @@ from . import gap_points, gap_report, sweep_points, sweep_report
 from .evidence import rising_to
 from .process import (Stopped, ToolError, called, clear_progress, in_words, program, progress, run_tool,
                       version_of)
-from .sweep_rows import NO_AGENTS, NO_MAP, SOLVED, USUAL, Results, Row, replace
+from .sweep_beside import named_table, rows_of
+from .sweep_rows import NO_AGENTS, NO_MAP, SOLVED, USUAL, Results, Row, natural, replace
 from .sweep_scenarios import Scenario, scenarios_of
 from .texts import MOST_AGENTS, MOST_SPLITS, number_between, read_bytes, seconds_of
 
@@ -102,6 +106,9 @@ def words() -> argparse.Namespace:
                              " solve together from the quick answer to the last")
     parser.add_argument("--again", action="store_true",
                         help="try the runs once more that failed: whose status is none of " + ", ".join(USUAL))
+    parser.add_argument("--beside", metavar="NAME=FILE", type=named_table, action="append", default=[],
+                        help="plot the runs of another solver or search too, which are in a table as results.csv; can"
+                             " be given several times")
     parser.add_argument("--jobs", metavar="J", type=number_between(1, 1000), default=len(os.sched_getaffinity(0)),
                         help="runs side by side on this machine; without it as many as it has cores")
     parser.add_argument("--scheduler", metavar="ADDRESS",
@@ -110,6 +117,8 @@ def words() -> argparse.Namespace:
     args = parser.parse_args()
     if args.gap and args.search == SEARCHES[0]:
         parser.error(f"--gap is for --search {SEARCHES[1]}, not {SEARCHES[0]}")
+    if args.gap and args.beside:
+        parser.error("--beside is for success rates, not --gap")
     args.search = args.search or SEARCHES[args.gap]
     return args
 
@@ -150,6 +159,8 @@ class Sweep:
     def __init__(self, args: argparse.Namespace) -> None:
         self.args = args
         self.scenarios = scenarios_of(args.maps, args.scens)
+        maps = {scenario.map for scenario in self.scenarios}
+        self.others = {beside.name: rows_of(beside, maps) for beside in args.beside}
         self.program = program()
         settings = {"measure": MEASURES[args.gap], "search": args.search, "limit": args.limit, "seconds": args.seconds,
                     "maps": str(args.maps.resolve()), "scens": str(args.scens.resolve()),
@@ -229,8 +240,12 @@ class Sweep:
         if self.args.gap:
             gaps = gap_points.points(rows, self.scenarios)
             return gap_report.page(gaps, rows, limit, seconds), gap_report.table(gaps, seconds)
-        points = sweep_points.points(rows, self.scenarios)
-        return sweep_report.page(points, rows, self.args.search, limit, seconds), sweep_report.table(points)
+        own = f"mapf {self.args.search}" if self.others else ""
+        tables = {own: rows, **self.others}
+        found = [point for name, of_solver in tables.items()
+                 for point in sweep_points.points(of_solver, self.scenarios, name)]
+        found.sort(key=lambda point: natural(point.map))
+        return sweep_report.page(found, tables, self.args.search, limit, seconds), sweep_report.table(found)
 
 
 def checksum_of(path: str) -> str:

@@ -16,7 +16,9 @@ LEFT, RIGHT, TOP, BOTTOM = 46, 12, 28, 42
 PAD = 7
 
 # The marks of the kinds of scenarios, in their order, around (0, 0).
-MARKS = ('<circle r="3.4"/>', '<rect x="-3.2" y="-3.2" width="6.4" height="6.4"/>', '<path d="M0-4.4 4 3.2H-4z"/>')
+MARKS = ('<circle r="3.4"/>', '<rect x="-3.2" y="-3.2" width="6.4" height="6.4"/>', '<path d="M0-4.4 4 3.2H-4z"/>',
+         '<path d="M0-4.6 4.6 0 0 4.6-4.6 0z"/>', '<path d="M0 4.4-4-3.2H4z"/>',
+         '<path d="M-1.3-4h2.6v2.7H4v2.6H1.3V4h-2.6V1.3H-4v-2.6h2.7z"/>')
 
 # Processor time is measured in milliseconds, so that less than one counts as one.
 LEAST_SECONDS = 0.001
@@ -56,18 +58,18 @@ def runtime(name: str, found: list[Point], words: Callable[[float], str]) -> str
 
 def cactus(name: str, times: Mapping[str, list[float]], words: Callable[[float], str]) -> str:
     """How many runs of a map are solved in which time: of each kind the seconds of the solved runs."""
-    there = {kind: sorted(seconds) for kind, seconds in times.items() if seconds}
+    there = {number: sorted(seconds) for number, seconds in enumerate(times.values()) if seconds}
     if not there:
         return ""
     most = max(map(len, there.values()))
     scale = Decades.of([second for seconds in there.values() for second in seconds])
     curves = ""
-    for number, seconds in enumerate(there.values()):
+    for number, seconds in there.items():
         places = [(across(at, most), up(scale.part(second))) for at, second in enumerate(seconds, 1)]
         last = (*places[-1], "whole", f"{len(seconds)} runs solved, each in at most {words(seconds[-1])}")
         curves += group(number, line(places) + mark(last, number))
     return figure(name, "runs solved", frame(most, "runs solved", scale.ticks(), "seconds of solve") + curves
-                  + legend(list(there), TOP + 14), "cactus")
+                  + legend(list(times), TOP + 14), "cactus")
 
 
 def kinds_of(found: Iterable[Point]) -> list[str]:

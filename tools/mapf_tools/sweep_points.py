@@ -36,8 +36,15 @@ def kind_of(scenario: str) -> str:
     return found[1] if found else ""
 
 
-def points(rows: list[Row], scenarios: list[Scenario]) -> list[Point]:
-    """The points of each map, by its name, its kinds and the number of agents."""
+def label(solver: str, kind: str) -> str:
+    """How a curve is called: by the solver, where there are several, and the kind of its scenarios."""
+    return " ".join(part for part in (solver, kind) if part)
+
+
+def points(rows: list[Row], scenarios: list[Scenario], solver: str = "") -> list[Point]:
+    """The points of each map, by its name, its kinds and the number of agents. The solver of these rows is named where
+    there are several.
+    """
     there = [row for row in rows if row.status not in (NO_MAP, NO_AGENTS)]
     groups = {(row.map, kind_of(row.scenario)) for row in there}
     found: list[Point] = []
@@ -46,7 +53,8 @@ def points(rows: list[Row], scenarios: list[Scenario]) -> list[Point]:
         most = {scenario.name: scenario.agents for scenario in scenarios
                 if (scenario.map, kind_of(scenario.name)) == (name, kind) and scenario.grid is not None}
         for agents in sorted({int(row.agents) for row in of_group}):
-            found.append(point(name, kind, agents, of_group, [own for own, count in most.items() if count >= agents]))
+            with_so_many = [own for own, count in most.items() if count >= agents]
+            found.append(point(name, label(solver, kind), agents, of_group, with_so_many))
     return [one for one in found if one.tried]
 
 
@@ -65,5 +73,6 @@ def point(name: str, kind: str, agents: int, rows: list[Row], scenarios: list[st
 
 
 def middle(rows: list[Row], name: str) -> float | None:
-    """The median of what the rows have under this name, None where there are no rows."""
-    return median(float(getattr(row, name)) for row in rows) if rows else None
+    """The median of what the rows have under this name, None where none has something."""
+    values = [float(value) for row in rows if (value := getattr(row, name))]
+    return median(values) if values else None

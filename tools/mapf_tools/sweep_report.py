@@ -6,10 +6,13 @@ from html import escape
 from pathlib import Path
 
 from .sweep_plot import cactus, plot, runtime
-from .sweep_points import Point, kind_of
+from .sweep_points import Point, kind_of, label
 from .sweep_rows import SOLVED, USUAL, Row
 
 STYLE = Path(__file__).resolve().with_name("sweep_report.css")
+
+# The rows of solvers by their names. Where there is one solver, its name is empty.
+Tables = dict[str, list[Row]]
 
 # Tables of more points than this are folded when the page opens.
 MANY = 60
@@ -76,20 +79,22 @@ def aligned(lines: list[tuple[str, ...]]) -> str:
 
 # The page.
 
-def page(found: list[Point], rows: list[Row], search: str, limit: int, most_seconds: float) -> str:
-    """The page of a sweep."""
+def page(found: list[Point], tables: Tables, search: str, limit: int, most_seconds: float) -> str:
+    """The page of a sweep. Of the tables the first is its own."""
+    own, *others = tables
+    rows = tables[own]
     maps = list(dict.fromkeys(one.map for one in found))
     of_map = {name: [one for one in found if one.map == name] for name in maps}
     plots = "".join(plot(name, of_map[name]) for name in maps)
     times = "".join(runtime(name, of_map[name], seconds) for name in maps)
-    counts = "".join(cactus(name, times_of(rows, name), seconds) for name in maps)
+    counts = "".join(cactus(name, times_of(tables, name), seconds) for name in maps)
     tables = "".join(table_of(name, of_map[name], len(found) <= MANY) for name in maps)
     partly = " A hollow mark: not every scenario has come that far yet." if any(one.pending for one in found) else ""
     return document("Success rate of mapf", f"""\
 <p>The share of scenarios that were solved, against the number of agents. Solved: <code>mapf solve --search
 {search}</code> found a cheapest plan within {limit:,} splits and {most_seconds:g} seconds, and <code>mapf check</code>
 confirmed from its certificate that no valid plan is cheaper. After the first number of agents with which it isn't
-solved a scenario isn't tried again, and counts as not solved.{partly}</p>
+solved a scenario isn't tried again, and counts as not solved.{partly}{of_others(others)}</p>
 <main>{plots}</main>
 <p>{escape(ends(rows))}</p>
 <h2>Runtime</h2>
@@ -121,13 +126,23 @@ def document(title: str, body: str) -> str:
 """
 
 
-def times_of(rows: Iterable[Row], name: str) -> dict[str, list[float]]:
-    """The seconds of the solved runs of a map, of each kind of scenarios."""
+def of_others(solvers: list[str]) -> str:
+    """What is to be known of the other solvers."""
+    if not solvers:
+        return ""
+    names = escape(", ".join(solvers))
+    return f" The runs of {names} are those of tables that were given; nothing of them was confirmed."
+
+
+def times_of(tables: Tables, name: str) -> dict[str, list[float]]:
+    """The seconds of the solved runs of a map, of each solver and kind of scenarios."""
     found: dict[str, list[float]] = {}
-    for row in rows:
-        if row.map == name and row.status == SOLVED:
-            found.setdefault(kind_of(row.scenario), []).append(float(row.solve_seconds))
-    return dict(sorted(found.items()))
+    for solver, rows in tables.items():
+        here = [row for row in rows if row.map == name]
+        for kind in sorted({kind_of(row.scenario) for row in here}):
+            found[label(solver, kind)] = [float(row.solve_seconds) for row in here
+                                          if kind_of(row.scenario) == kind and row.status == SOLVED]
+    return found
 
 
 def ends(rows: list[Row]) -> str:
