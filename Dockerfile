@@ -1,0 +1,15 @@
+# mapf and its tools in a container. In a clone, with docker or podman:
+#
+#   ./dist
+#   docker build --tag mapf .
+#   docker run --rm --volume "$PWD:/work" mapf mapf check MAP SCEN K PLAN CERT
+#   docker run --rm --volume "$PWD:/work" mapf verify MAP SCEN K ANSWER
+#
+# The image has the archive that ./dist makes, and nothing of the toolchain. Files are named by their paths in /work.
+ARG BASE=docker.io/library/python:3.13-slim-bookworm
+FROM ${BASE}
+ADD mapf-*.tar.gz /opt/
+RUN mv /opt/mapf-* /opt/mapf
+ENV PATH=/opt/mapf:/opt/mapf/tools:$PATH
+WORKDIR /work
+CMD ["mapf", "--help"]
