@@ -70,8 +70,8 @@ def by_options():
     return [
         upward,
         Asked("such moves read as they are", upward.answer, 1, "not valid: agent 1 goes from (1,0) to (1,-1) after "
-              "tick 1, and (1,-1) is outside the map\nand agent 1 goes from (1,-1) to (1,-2) after tick 2, and (1,-2) is "
-              "outside the map\nand agent 1 ends in (1,-2), and its goal is (1,2)\n"),
+              "tick 1, and (1,-1) is outside the map\nand agent 1 goes from (1,-1) to (1,-2) after tick 2, and (1,-2) "
+              "is outside the map\nand agent 1 ends in (1,-2), and its goal is (1,2)\n"),
         Asked("moves with x and y exchanged", "dd\nwrr\n", 0, "cheapest: 5\n", more=["--exchange-xy"]),
         Asked("moves that are named", "\nwdd\n", 1, "not valid: agent 0 ends in (0,1), and its goal is (2,1)\n",
               more=["--format", "moves"]),

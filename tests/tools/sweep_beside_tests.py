@@ -101,6 +101,8 @@ def refusals(bench):
         (bench.folder / name).write_text(text)
     calls = {
         "no name": (few(bench, "--beside", "first.csv"), "isn't NAME=FILE"),
+        "a name twice": (few(bench, *given(bench, ("A", "first.csv"), ("A", "second.csv"))), "solvers are called A"),
+        "the name of the sweep": (few(bench, *given(bench, ("mapf cbs", "first.csv"))), "two solvers are called mapf"),
         "no file": (few(bench, *given(bench, ("A", "nowhere.csv"))), "nowhere.csv: No such file"),
         "a file that is empty": (few(bench, *given(bench, ("A", "none.csv"))), "no row of a map of this sweep"),
         "rows of other maps": (few(bench, *given(bench, ("A", "other.csv"))), "no row of a map of this sweep"),

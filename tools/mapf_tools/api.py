@@ -43,12 +43,12 @@ def read_scenario(path: str | Path, grid: Grid, count: int) -> list[Agent]:
     return read_agents(path, grid, count)
 
 
-def read_plan(path: str | Path, agents: Sequence[Agent], name: str | None = None,
-              is_exchanged: bool = False) -> list[list[Cell]]:
+def read_plan(path: str | Path, agents: Sequence[Agent], name: str | None = None, is_exchanged: bool = False,
+              is_mirrored: bool = False) -> list[list[Cell]]:
     """The plan in a file, in each format that tools/verify reads. Unless the format is named, the first line tells it.
-    x and y are exchanged, if so asked.
+    If so asked, x and y are exchanged, and of moves up and down.
     """
-    return read_answer(path, [agent.start for agent in agents], name, is_exchanged)
+    return read_answer(path, [agent.start for agent in agents], name, is_exchanged, is_mirrored)
 
 
 def faults_of_plan(grid: Grid, agents: Sequence[Agent], plan: Sequence[list[Cell]]) -> list[Fault]:
@@ -77,10 +77,10 @@ def read_certificate(path: str | Path) -> Certificate:
     return Certificate(version, agents, shape.split(" ")[1], numbers[0] if numbers else None)
 
 
-def recheck_certificate(grid: str | Path, scenario: str | Path, count: int, plan: str | Path,
-                        certificate: str | Path) -> Verdict:
+def recheck_certificate(map_file: str | Path, scenario_file: str | Path, count: int, plan_file: str | Path,
+                        certificate_file: str | Path) -> Verdict:
     """What tools/recheck says of these four files: whether the certificate shows its claim for so many agents."""
-    files = [str(path) for path in (grid, scenario, plan, certificate)]
+    files = [str(path) for path in (map_file, scenario_file, plan_file, certificate_file)]
     stream, line, _ = recheck.answer(files, count)
     if stream == 2:
         raise ToolError(f"recheck says '{line}' of {', '.join(files)}: docs/FORMATS.md tells what it means")

@@ -43,7 +43,7 @@ from . import gap_points, gap_report, sweep_points, sweep_report
 from .evidence import rising_to
 from .process import (Stopped, ToolError, called, clear_progress, in_words, program, progress, run_tool,
                       version_of)
-from .sweep_beside import named_table, rows_of
+from .sweep_beside import named_table, tables_of
 from .sweep_rows import NO_AGENTS, NO_MAP, SOLVED, USUAL, Results, Row, natural, replace
 from .sweep_scenarios import Scenario, scenarios_of
 from .texts import MOST_AGENTS, MOST_SPLITS, number_between, read_bytes, seconds_of
@@ -160,7 +160,8 @@ class Sweep:
         self.args = args
         self.scenarios = scenarios_of(args.maps, args.scens)
         maps = {scenario.map for scenario in self.scenarios}
-        self.others = {beside.name: rows_of(beside, maps) for beside in args.beside}
+        self.own_name = f"mapf {args.search}" if args.beside else ""
+        self.others = tables_of(args.beside, maps, self.own_name)
         self.program = program()
         settings = {"measure": MEASURES[args.gap], "search": args.search, "limit": args.limit, "seconds": args.seconds,
                     "maps": str(args.maps.resolve()), "scens": str(args.scens.resolve()),
@@ -240,8 +241,7 @@ class Sweep:
         if self.args.gap:
             gaps = gap_points.points(rows, self.scenarios)
             return gap_report.page(gaps, rows, limit, seconds), gap_report.table(gaps, seconds)
-        own = f"mapf {self.args.search}" if self.others else ""
-        tables = {own: rows, **self.others}
+        tables = {self.own_name: rows, **self.others}
         found = [point for name, of_solver in tables.items()
                  for point in sweep_points.points(of_solver, self.scenarios, name)]
         found.sort(key=lambda point: natural(point.map))

@@ -4,7 +4,7 @@ which four have to be there.
 
 import argparse
 import csv
-from collections.abc import Iterable
+from collections.abc import Iterable, Sequence
 from dataclasses import dataclass
 from pathlib import Path
 
@@ -30,6 +30,15 @@ def named_table(word: str) -> Beside:
     if not name.strip() or not sign or not path:
         raise argparse.ArgumentTypeError(f"{word} isn't NAME=FILE, as EECBS=eecbs.csv")
     return Beside(name.strip(), Path(path))
+
+
+def tables_of(given: Sequence[Beside], maps: Iterable[str], own_name: str) -> dict[str, list[Row]]:
+    """The rows of each solver by its name, which has to differ from the others and from that of the sweep."""
+    names = [own_name, *(beside.name for beside in given)]
+    for name in names:
+        if names.count(name) > 1:
+            raise ToolError(f"--beside: two solvers are called {name}: give each a name of its own")
+    return {beside.name: rows_of(beside, maps) for beside in given}
 
 
 def rows_of(beside: Beside, maps: Iterable[str]) -> list[Row]:
