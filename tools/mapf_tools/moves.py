@@ -1,5 +1,5 @@
 """Plans as moves from the agents' starts, and plans in JSON. A move is a letter: u, d, l, r for a step up, down, left
-or right, where row 0 is the topmost, and w for a wait.
+or right, where rows are counted from the top, and w for a wait.
 
 moves   for each agent a line with its moves, `rrdw` or `R,R,D,W`; an agent that doesn't move has a blank line
 json    one of these:
