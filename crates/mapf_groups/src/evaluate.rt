@@ -2,7 +2,7 @@
 use crate::searcher::Searcher;
 use mapf_model::{Cell, Conflict, OutOfMemory, Path};
 use mapf_nodes::{
-    ConflictCount, Costs, Fact, FactGroup, NodeState, PairFact, WeightedFact, is_of, pairs_of,
+    ConflictCount, Costs, Fact, FactGroup, Node, NodeState, PairFact, WeightedFact, is_of, pairs_of,
 };
 use mapf_packing::PackedGroup;
 use std::alloc::Global;
@@ -11,10 +11,10 @@ impl<'a> Searcher<'a> {
     /// Finds what the pairs in conflict at a node cost at least together. If a pair costs no more than its agents
     /// alone, the two paths of the pair take the place of the node's, where fewer conflicts are left.
     pub fn evaluate(&mut self, number: u32) -> Result<(), OutOfMemory> {
-        let mut tried = Vec::new(self.alloc);
+        self.weighed.begin();
         // Each turn but the last lowers the number of pairs in conflict.
         for _ in 0..u32::MAX {
-            if !self.evaluate_once(number, &mut tried)? {
+            if !self.evaluate_once(number)? {
                 break;
             }
         }
@@ -107,17 +107,16 @@ impl<'a> Searcher<'a> {
         store.pairs.number_of(&mut store.singles, first, second)
     }
 
-    // Looks at each pair in conflict. Returns whether two paths took the place of the node's.
-    fn evaluate_once(
-        &mut self,
-        number: u32,
-        tried: &mut Vec<(u32, u32)>,
-    ) -> Result<bool, OutOfMemory> {
+    // Looks at each pair in conflict that wasn't looked at yet. Returns whether two paths took the place of the node's.
+    fn evaluate_once(&mut self, number: u32) -> Result<bool, OutOfMemory> {
         let Some(node) = self.tree.node(number) else {
             return Ok(false);
         };
-        for pair in pairs_of(self.alloc, &node.conflicts)? {
-            if self.weigh(number, pair, tried)? {
+        for (i, j) in pairs_of(self.alloc, &node.conflicts)? {
+            if !self.weighed.mark(i, j) {
+                continue;
+            }
+            if self.weigh(number, (i, j))? {
                 return Ok(true);
             }
             if self.state_of(number) == NodeState::Dead {
@@ -128,12 +127,7 @@ impl<'a> Searcher<'a> {
     }
 
     // Notes what a pair costs at least together. Returns whether its two paths took the place of the node's.
-    fn weigh(
-        &mut self,
-        number: u32,
-        (i, j): (u32, u32),
-        tried: &mut Vec<(u32, u32)>,
-    ) -> Result<bool, OutOfMemory> {
+    fn weigh(&mut self, number: u32, (i, j): (u32, u32)) -> Result<bool, OutOfMemory> {
         let Some((first, second)) = self.singles_at(number, i, j) else {
             return Ok(false);
         };
@@ -151,10 +145,6 @@ impl<'a> Searcher<'a> {
             }
             return Ok(false);
         }
-        if tried.contains(&(i, j)) {
-            return Ok(false);
-        }
-        tried.push((i, j))?;
         self.take_pair(number, (i, j), pair)
     }
 
@@ -180,17 +170,10 @@ impl<'a> Searcher<'a> {
         if !self.obeys(number, i, first.cells())? || !self.obeys(number, j, second.cells())? {
             return Ok(false);
         }
-        let Some(conflicts) = self.conflicts_after(number, (i, &first), (j, &second))? else {
+        let Some((conflicts, count)) = self.fewer_conflicts(number, (i, &first), (j, &second))?
+        else {
             return Ok(false);
         };
-        let count = ConflictCount::of(self.alloc, &conflicts)?;
-        if self
-            .tree
-            .node(number)
-            .is_none_or(|node| count.pairs >= node.count.pairs)
-        {
-            return Ok(false);
-        }
         let first = self.store.paths.add(first)?;
         let second = self.store.paths.add(second)?;
         self.replace_path(number, i, first);
@@ -220,27 +203,25 @@ impl<'a> Searcher<'a> {
     }
 
     // Returns the conflicts of a node whose paths of two agents were replaced by these, which have none with each
-    // other.
-    fn conflicts_after(
+    // other. None if no fewer pairs are in conflict.
+    fn fewer_conflicts(
         &mut self,
         number: u32,
         (i, first): (u32, &Path),
         (j, second): (u32, &Path),
-    ) -> Result<Option<Vec<Conflict>>, OutOfMemory> {
+    ) -> Result<Option<(Vec<Conflict>, ConflictCount)>, OutOfMemory> {
         let Some(node) = self.tree.node(number) else {
             return Ok(None);
         };
-        let mut conflicts = Vec::new(self.alloc);
-        for conflict in &node.conflicts {
-            if !is_of(conflict, i) && !is_of(conflict, j) {
-                conflicts.push(*conflict)?;
-            }
-        }
         let paths = Vec::from_slice(self.alloc, &node.paths)?;
         self.place_all(&paths)?;
-        self.add_without(&mut conflicts, (i, first), j)?;
-        self.add_without(&mut conflicts, (j, second), i)?;
-        Ok(Some(conflicts))
+        let mut added = Vec::new(self.alloc);
+        self.add_without(&mut added, (i, first), j)?;
+        self.add_without(&mut added, (j, second), i)?;
+        match self.tree.node(number) {
+            Some(node) => replaced(self.alloc, node, (i, j), &added),
+            None => Ok(None),
+        }
     }
 
     // Adds the conflicts of an agent on this path with the others of the tree but one.
@@ -269,6 +250,32 @@ impl<'a> Searcher<'a> {
             }
         }
     }
+}
+
+// Returns the conflicts of a node in which these take the place of those of two agents. None if no fewer pairs are in
+// conflict.
+fn replaced(
+    alloc: Global,
+    node: &Node,
+    (i, j): (u32, u32),
+    added: &[Conflict],
+) -> Result<Option<(Vec<Conflict>, ConflictCount)>, OutOfMemory> {
+    let mut count = ConflictCount::of(added);
+    let mut last = None;
+    for conflict in &node.conflicts {
+        if !is_of(conflict, i) && !is_of(conflict, j) {
+            count.add(conflict, &mut last);
+        }
+    }
+    if count.pairs >= node.count.pairs {
+        return Ok(None);
+    }
+    let mut conflicts = Vec::from_slice(alloc, &node.conflicts)?;
+    conflicts.retain(|conflict| !is_of(conflict, i) && !is_of(conflict, j));
+    for &conflict in added {
+        conflicts.push(conflict)?;
+    }
+    Ok(Some((conflicts, count)))
 }
 
 // Returns a group with the bounds that its uses name by their places.

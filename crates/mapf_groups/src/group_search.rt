@@ -506,7 +506,7 @@ impl<'a> Searcher<'a> {
                 root.conflicts.push(*conflict)?;
             }
         }
-        root.count = ConflictCount::of(self.alloc, &root.conflicts)?;
+        root.count = ConflictCount::of(&root.conflicts);
         Ok(())
     }
 

@@ -34,6 +34,7 @@ mod expand;
 mod group_search;
 mod joint_cells;
 mod outcome;
+mod pair_marks;
 mod priced;
 mod searcher;
 mod solver;

@@ -2,7 +2,7 @@
 use mapf_lemma_texts::{OneLemma, Part, TwoLemma};
 use mapf_lemmas::{Group, LeafUses, PriceList, Use};
 use mapf_model::{OutOfMemory, Problem};
-use mapf_prices::{Known, PriceBound, PricedLemma, price_bound};
+use mapf_prices::{Budgets, FULL_BUDGETS, Known, PriceBound, PricedLemma, price_bound};
 use std::alloc::Global;
 
 /// A bound by prices, in ticks, and the parts that show it.
@@ -20,7 +20,17 @@ pub fn bound_by_prices(
     bound: u64,
     cost: u64,
 ) -> Result<Option<Priced>, OutOfMemory> {
-    let Some(found) = price_bound(alloc, problem, Known { bound, cost })? else {
+    priced_within(alloc, problem, Known { bound, cost }, &FULL_BUDGETS)
+}
+
+/// Finds prices within these budgets. None if they aren't tried, or show far less than the known bound.
+pub fn priced_within(
+    alloc: Global,
+    problem: &Problem,
+    known: Known,
+    budgets: &Budgets,
+) -> Result<Option<Priced>, OutOfMemory> {
+    let Some(found) = price_bound(alloc, problem, known, budgets)? else {
         return Ok(None);
     };
     let PriceBound {

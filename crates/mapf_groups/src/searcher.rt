@@ -1,5 +1,6 @@
 //! The memory of a search, and how it makes the nodes of its tree.
 use crate::group_search::Suspended;
+use crate::pair_marks::PairMarks;
 use crate::visit::Visit;
 use mapf_layers::ConstraintSet;
 use mapf_lemma_texts::Part;
@@ -23,6 +24,8 @@ pub struct Searcher<'a> {
     // What stands for an agent at a node, and those of it that matter for its cheapest paths.
     pub standing: ConstraintSet,
     relevant: ConstraintSet,
+    /// The pairs that were looked at in the evaluation of a node.
+    pub weighed: PairMarks,
     /// The bounds of a node that are packed.
     pub facts: Vec<Fact>,
     /// How many nodes were split, and how many may be.
@@ -62,6 +65,7 @@ impl<'a> Searcher<'a> {
             tree,
             standing: ConstraintSet::new(alloc),
             relevant: ConstraintSet::new(alloc),
+            weighed: PairMarks::of(alloc, agents)?,
             facts: Vec::new(alloc),
             splits: 0,
             limit,
@@ -90,7 +94,7 @@ impl<'a> Searcher<'a> {
         for place in 0..root.singles.len() {
             self.add_path(&mut root, place)?;
         }
-        root.count = ConflictCount::of(self.alloc, &root.conflicts)?;
+        root.count = ConflictCount::of(&root.conflicts);
         self.tree.nodes.push(root)?;
         self.tree.push(0)
     }
@@ -109,7 +113,7 @@ impl<'a> Searcher<'a> {
             }
             self.replan(&mut child, place)?;
         }
-        child.count = ConflictCount::of(self.alloc, &child.conflicts)?;
+        child.count = ConflictCount::of(&child.conflicts);
         child.bound = child.bound.max(child.base);
         Ok(Some(child))
     }

@@ -5,13 +5,14 @@ ghost use Rattle.mapf_model.specs.Limits.{most_splits};
 use crate::begin::impossible;
 use crate::expand::Ended;
 use crate::outcome::Outcome;
-use crate::priced::{Priced, bound_by_prices};
+use crate::priced::{Priced, priced_within};
 use crate::searcher::Searcher;
 use mapf_model::{Cause, OutOfMemory, Path, Plan, Problem, Unwatched, Watcher};
 use mapf_nodes::{Members, SearchTree};
+use mapf_prices::{Budgets, FULL_BUDGETS, Known, QUICK_BUDGETS};
 use std::alloc::Global;
 
-/// Prices are tried after so many splits, or at the limit if that comes first.
+/// Prices are tried after so many splits, or at the limit if that comes first. Then their budgets are smaller.
 const SPLITS_BEFORE_PRICES: u32 = 1000;
 
 /// Searches for an optimal plan, with at most `limit` splits: 0 to 100,000. A bypass is no split. Out of memory is the
@@ -49,7 +50,7 @@ pub fn search_below<W: Watcher>(
     };
     let priced = match &ended {
         Ended::Plan(_) => None,
-        _ => by_prices(&searcher)?,
+        _ => by_prices(&searcher, &QUICK_BUDGETS)?,
     };
     let outcome = end(&mut searcher, ended)?;
     Ok(with_prices(outcome, priced))
@@ -57,7 +58,7 @@ pub fn search_below<W: Watcher>(
 
 // Goes on with a search that has paused, unless prices show that no cheaper plan is left.
 fn go_on<W: Watcher>(searcher: &mut Searcher, watcher: &mut W) -> Result<Outcome, OutOfMemory> {
-    let priced = by_prices(searcher)?;
+    let priced = by_prices(searcher, &FULL_BUDGETS)?;
     let is_in_vain = match &priced {
         Some(found) => found.bound >= searcher.below,
         None => false,
@@ -76,12 +77,15 @@ fn go_on<W: Watcher>(searcher: &mut Searcher, watcher: &mut W) -> Result<Outcome
 }
 
 // Returns the bound by prices, if a plan is known that costs more than the bound of the search.
-fn by_prices(searcher: &Searcher) -> Result<Option<Priced>, OutOfMemory> {
-    let bound = searcher.bound();
-    if searcher.below == u64::MAX || bound >= searcher.below {
+fn by_prices(searcher: &Searcher, budgets: &Budgets) -> Result<Option<Priced>, OutOfMemory> {
+    let known = Known {
+        bound: searcher.bound(),
+        cost: searcher.below,
+    };
+    if known.cost == u64::MAX || known.bound >= known.cost {
         return Ok(None);
     }
-    bound_by_prices(searcher.alloc, searcher.problem, bound, searcher.below)
+    priced_within(searcher.alloc, searcher.problem, known, budgets)
 }
 
 // Returns the outcome of a search, with the bound by prices if the search ended with a smaller one.

@@ -10,13 +10,24 @@ pub struct ConflictCount {
 }
 
 impl ConflictCount {
-    /// Counts these conflicts.
-    pub fn of(alloc: Global, conflicts: &[Conflict]) -> Result<ConflictCount, OutOfMemory> {
-        let pairs = pairs_of(alloc, conflicts)?;
-        Ok(ConflictCount {
-            pairs: u32::try_from(pairs.len()).unwrap_or(u32::MAX),
-            conflicts: u32::try_from(conflicts.len()).unwrap_or(u32::MAX),
-        })
+    /// Counts these conflicts, of which those of a pair stand together.
+    pub fn of(conflicts: &[Conflict]) -> ConflictCount {
+        let mut count = ConflictCount::default();
+        let mut last = None;
+        for conflict in conflicts {
+            count.add(conflict, &mut last);
+        }
+        count
+    }
+
+    /// Counts a conflict more, after one of this pair. None if it is the first one.
+    pub fn add(&mut self, conflict: &Conflict, last: &mut Option<(u32, u32)>) {
+        let pair = pair_of(conflict);
+        if *last != Some(pair) {
+            *last = Some(pair);
+            self.pairs = self.pairs.saturating_add(1);
+        }
+        self.conflicts = self.conflicts.saturating_add(1);
     }
 }
 
