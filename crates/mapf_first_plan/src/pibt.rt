@@ -235,7 +235,7 @@ impl<'a> Pibt<'a> {
             ranked.push(RankedStep {
                 distance: self.task.distance(agent, cell),
                 is_occupied: self.occupants.get(cell).is_some(),
-                hash: hash_of(cell, agent, self.tick),
+                hash: hash_of(cell, agent, self.tick, self.task.attempt),
                 cell,
             })?;
         }

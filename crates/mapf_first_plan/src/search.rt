@@ -14,9 +14,16 @@ use mapf_distance::Distances;
 use mapf_model::{Cell, OutOfMemory, Problem};
 use std::alloc::Global;
 
-/// A good bound on the successors that are tried: most searches that end try fewer than 3,000. For 200 agents so many
-/// take up to 400 MB.
-pub const SUCCESSORS_TO_TRY: u64 = 100_000;
+/// A good bound on the successors that are tried: the last search may try 100,000. For 200 agents so many take up to
+/// 400 MB.
+pub const SUCCESSORS_TO_TRY: u64 = 124_000;
+
+// Most searches that end try fewer successors. One that doesn't is given up, and another one begins, which orders equally
+// good steps in another way.
+const SUCCESSORS_BEFORE_RESTART: u64 = 3_000;
+
+// How many searches may be given up. The next one may try all successors that are left.
+const RESTARTS: u32 = 8;
 
 /// Searches for a plan, and tries at most `most` successors of configurations. The distances are those to the agents'
 /// goals, by agent, as `mapf_distance::goal_tables` makes them. Each successor takes at most some time that grows with
@@ -31,10 +38,42 @@ pub fn first_plan(
     // A plan has a path for each agent.
     ensures { IfOk result (HasShape problem.now) }
 {
-    let task = Task { problem, distances };
+    let task = Task {
+        problem,
+        distances,
+        attempt: 0,
+    };
     if is_plainly_impossible(alloc, &task)? {
         return Ok(FirstPlan::Impossible);
     }
+    let mut left = most;
+    for attempt in 0..RESTARTS {
+        let share = left.min(SUCCESSORS_BEFORE_RESTART);
+        left = left.saturating_sub(share);
+        match plan_by(alloc, problem, distances, attempt, share)? {
+            FirstPlan::Stopped => {}
+            ended => return Ok(ended),
+        }
+    }
+    plan_by(alloc, problem, distances, RESTARTS, left)
+}
+
+// Searches for a plan from the starts, and tries so many successors at most. Its number says how equally good steps are
+// ordered.
+fn plan_by(
+    alloc: Global,
+    problem: &Problem,
+    distances: &[Distances],
+    attempt: u32,
+    most: u64,
+) -> Result<FirstPlan, OutOfMemory>
+    ensures { IfOk result (HasShape problem.now) }
+{
+    let task = Task {
+        problem,
+        distances,
+        attempt,
+    };
     let mut search = Search::of(alloc, task)?;
     match search.run(most)? {
         Ended::AtGoal(number) => {

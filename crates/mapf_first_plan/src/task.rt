@@ -10,6 +10,8 @@ pub struct Task<'a> {
     pub problem: &'a Problem,
     /// By agent.
     pub distances: &'a [Distances],
+    /// The number of the search for the problem's plan, from 0.
+    pub attempt: u32,
 }
 
 impl<'a> Task<'a> {

@@ -33,14 +33,15 @@ pub struct RankedStep {
     /// From there to the goal.
     pub distance: u32,
     pub is_occupied: bool,
-    /// Puts equally good steps in an order that differs from tick to tick.
+    /// Puts equally good steps in an order that differs from tick to tick, and from search to search.
     pub hash: u64,
     pub cell: Cell,
 }
 
-/// Returns a hash of a cell, an agent and a tick, of 24 bits.
+/// Returns a hash of a cell, an agent, a tick and the number of a search, of 24 bits.
 #[inline(always)]
-pub fn hash_of(cell: Cell, agent: usize, tick: u32) -> u64 {
-    let key = (u64::from(cell.0) << 32) ^ ((agent as u64) << 16) ^ u64::from(tick);
+pub fn hash_of(cell: Cell, agent: usize, tick: u32, attempt: u32) -> u64 {
+    let search = u64::from(attempt) << 48;
+    let key = search ^ (u64::from(cell.0) << 32) ^ ((agent as u64) << 16) ^ u64::from(tick);
     key.wrapping_mul(0x9E37_79B9_7F4A_7C15) >> 40
 }
