@@ -176,8 +176,8 @@ impl<'a> Ascent<'a> {
 
     // Returns how many states all searches have expanded.
     fn states(&self) -> u64 {
-        let joint = self.couples.search.work.saturating_mul(8);
-        self.paths.search.work.saturating_add(joint)
+        let joint = self.couples.search.expanded.saturating_mul(8);
+        self.paths.search.expanded.saturating_add(joint)
     }
 
     // Returns whether prices raised the bound by less than two thirds of what the known one needs: the rounds after the

@@ -91,7 +91,7 @@ pub struct JointSearch {
     // Paths cost less than this together.
     limit: u64,
     /// How many joint states were expanded by all searches.
-    pub work: u64,
+    pub expanded: u64,
 }
 
 // A step of one agent: where it leads, and what it costs.
@@ -110,7 +110,7 @@ impl JointSearch {
             open: BinaryHeap::new(alloc),
             numbers: HashMap::new(alloc),
             limit: 0,
-            work: 0,
+            expanded: 0,
         }
     }
 
@@ -142,7 +142,7 @@ impl JointSearch {
                 let last = Some(open.number);
                 return Ok(Found { cost, last });
             }
-            self.work = self.work.saturating_add(1);
+            self.expanded = self.expanded.saturating_add(1);
             self.arrive(prices, halves, open.number, &node)?;
             self.step(prices, halves, open.number, &node)?;
         }

@@ -25,4 +25,4 @@ mod rounded;
 mod search;
 
 pub use ascent::Known;
-pub use rounded::{PriceBound, PricedLemma, price_bound};
+pub use rounded::{Budgets, FULL_BUDGETS, PriceBound, PricedLemma, QUICK_BUDGETS, price_bound};

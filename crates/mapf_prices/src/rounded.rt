@@ -17,15 +17,35 @@ const SLACK: Tick = 80;
 // The greatest number of cells, each at a tick, for which prices are tried: they take up to 130 MB.
 const MOST_STATES: usize = 2_000_000;
 
-// What rounds may take in which each agent is priced alone, and then those with mates.
-const ALONE: Budget = Budget {
-    rounds: 600,
-    states: 12_000_000,
+/// What the rounds may take in which each agent is priced alone, and then those with mates.
+#[derive(Clone, Copy, Debug)]
+pub struct Budgets {
+    alone: Budget,
+    paired: Budget,
+}
+
+/// The budgets of a search that goes on for long.
+pub const FULL_BUDGETS: Budgets = Budgets {
+    alone: Budget {
+        rounds: 600,
+        states: 12_000_000,
+    },
+    paired: Budget {
+        rounds: 60,
+        states: 24_000_000,
+    },
 };
 
-const PAIRED: Budget = Budget {
-    rounds: 60,
-    states: 24_000_000,
+/// The budgets of an answer that is wanted soon.
+pub const QUICK_BUDGETS: Budgets = Budgets {
+    alone: Budget {
+        rounds: 600,
+        states: 6_000_000,
+    },
+    paired: Budget {
+        rounds: 60,
+        states: 12_000_000,
+    },
 };
 
 /// A bound by prices, in ticks, and what shows it.
@@ -52,13 +72,14 @@ pub enum PricedLemma {
     },
 }
 
-/// Finds prices within a budget, and returns their bound on the sum of costs. None if the grid is too large for prices, no
-/// steps lead an agent to its goal, or after a quarter of the budget prices are far behind the known bound. Out of memory
-/// is the only error.
+/// Finds prices within these budgets, and returns their bound on the sum of costs. None if the grid is too large for
+/// prices, no steps lead an agent to its goal, or after a quarter of the first budget prices are far behind the known
+/// bound. Out of memory is the only error.
 pub fn price_bound(
     alloc: Global,
     problem: &Problem,
     known: Known,
+    budgets: &Budgets,
 ) -> Result<Option<PriceBound>, OutOfMemory> {
     let distances = goal_tables(alloc, problem)?;
     let Some(ticks) = horizon(problem, &distances) else {
@@ -70,12 +91,12 @@ pub fn price_bound(
     let resources = Resources::of(alloc, problem.grid(), ticks)?;
     let prices = Prices::of(alloc, resources)?;
     let mut ascent = Ascent::of(alloc, problem, &distances, prices, known)?;
-    match ascent.run(&ALONE)? {
+    match ascent.run(&budgets.alone)? {
         Ended::Optimal => {}
         Ended::Behind => return Ok(None),
         Ended::Spent => {
             ascent.pair()?;
-            let _ended = ascent.run(&PAIRED)?;
+            let _ended = ascent.run(&budgets.paired)?;
         }
     }
     let wanted = ascent.bound.div_ceil(u64::from(UNIT));

@@ -95,7 +95,7 @@ pub struct PathSearch {
     rest: Vec<u64>,
     cells: usize,
     /// How many states were expanded by all searches.
-    pub work: u64,
+    pub expanded: u64,
 }
 
 impl PathSearch {
@@ -109,7 +109,7 @@ impl PathSearch {
             came: vec![in alloc; 0; states]?,
             rest: vec![in alloc; 0; ticks as usize]?,
             cells,
-            work: 0,
+            expanded: 0,
         })
     }
 
@@ -210,7 +210,7 @@ impl PathSearch {
     ) -> Result<(), OutOfMemory> {
         self.mark = self.mark.saturating_add(1);
         self.next.cells.clear();
-        self.work = self.work.saturating_add(self.open.cells.len() as u64);
+        self.expanded = self.expanded.saturating_add(self.open.cells.len() as u64);
         for place in 0..self.open.cells.len() {
             let Some(&cell) = self.open.cells.get(place) else {
                 break;
