@@ -88,6 +88,7 @@ fn path_of<'a>(job: &'a Job, fault: &Fault) -> Option<&'a str> {
             events,
             ..
         } => (map, scen, plan, None, Some(events)),
+        Job::SolveInJson { .. } | Job::CheckInJson { .. } => return None,
         Job::Demo | Job::Explain { .. } => return None,
     };
     match file {
@@ -109,7 +110,7 @@ fn file_of(fault: &Fault) -> Option<File> {
         Fault::F4(Input::Cert) | Fault::F5(Output::Cert) => Some(File::Certificate),
         Fault::F5(Output::Out) | Fault::F6 => None,
         Fault::Refused(CheckFault::C1(_) | CheckFault::C5(_)) => Some(File::Plan),
-        Fault::Refused(CheckFault::C3 | CheckFault::Memory) => None,
+        Fault::Refused(CheckFault::C3 | CheckFault::C4 | CheckFault::Memory) => None,
         Fault::Refused(_) => Some(File::Certificate),
     }
 }

@@ -82,6 +82,29 @@ fn run(rt: &HostRuntime, job: &Job) -> ExitCode
                 cert,
             ),
         ),
+        Job::SolveInJson {
+            search,
+            map,
+            scen,
+            k,
+            limit,
+            improvements,
+            plan,
+            cert,
+        } => words::solved_in_json(
+            rt,
+            files::solve(
+                rt,
+                ProblemFiles { map, scen, k: *k },
+                SolveOptions {
+                    search: *search,
+                    limit: *limit,
+                    improvements: *improvements,
+                },
+                plan,
+                cert,
+            ),
+        ),
         Job::Check {
             map,
             scen,
@@ -93,6 +116,16 @@ fn run(rt: &HostRuntime, job: &Job) -> ExitCode
             job,
             &files::check(rt, ProblemFiles { map, scen, k: *k }, plan, cert),
         ),
+        Job::CheckInJson {
+            map,
+            scen,
+            k,
+            plan,
+            cert,
+        } => {
+            let problem = ProblemFiles { map, scen, k: *k };
+            words::checked_in_json(rt, &files::check(rt, problem, plan, cert))
+        }
         Job::Play { map, scen, k, plan } => words::ended(
             rt,
             job,

@@ -3,6 +3,7 @@ use crate::in_words::tell_in_words;
 use crate::outputs::{OneFile, Unsolved};
 use mapf_app::{Answered, Fault, Job, Verdict, tell_check, tell_run, tell_solve_by};
 use mapf_explain::explain;
+use mapf_json::{tell_check_json, tell_solve_json};
 use mapf_model::{WriteSink, write_all};
 use std::process::ExitCode;
 use std::rt::Env;
@@ -99,6 +100,13 @@ pub fn checked(rt: &HostRuntime, job: &Job, answer: &Result<Verdict, Fault>) -> 
     ExitCode::from(status)
 }
 
+/// Reports the verdict, or the error, by an object of JSON.
+pub fn checked_in_json(rt: &HostRuntime, answer: &Result<Verdict, Fault>) -> ExitCode {
+    let mut out = WriteSink::of(rt.stdout());
+    let mut err = WriteSink::of(rt.stderr());
+    ExitCode::from(tell_check_json(answer, &mut out, &mut err))
+}
+
 /// Reports the answer, or why there is none.
 pub fn solved(rt: &HostRuntime, job: &Job, answer: Result<Answered, Unsolved<'_>>) -> ExitCode {
     let answer = match answer {
@@ -113,4 +121,16 @@ pub fn solved(rt: &HostRuntime, job: &Job, answer: Result<Answered, Unsolved<'_>
         tell_in_words(rt, job, fault);
     }
     ExitCode::from(status)
+}
+
+/// Reports the answer, or why there is none, by an object of JSON. Of two paths of one file there is none.
+pub fn solved_in_json(rt: &HostRuntime, answer: Result<Answered, Unsolved<'_>>) -> ExitCode {
+    let answer = match answer {
+        Ok(answer) => Ok(answer),
+        Err(Unsolved::Fault(fault)) => Err(fault),
+        Err(Unsolved::OneFile(one)) => return one_file(rt, &one),
+    };
+    let mut out = WriteSink::of(rt.stdout());
+    let mut err = WriteSink::of(rt.stderr());
+    ExitCode::from(tell_solve_json(&answer, &mut out, &mut err))
 }

@@ -89,7 +89,9 @@ fn of_refusal(word: &str) -> Option<Meaning> {
         "C1" => then("the plan text has an error", Place::PlanText),
         "C2" => then("the certificate has an error", Place::Certificate),
         "C3" => last("the number of agents of the plan text or of the certificate isn't K"),
-        "C4" => last("the claim of the certificate doesn't fit the plan text"),
+        "C4" => last(
+            "the claim of the certificate doesn't fit the plan text, or that has a limit of version 1",
+        ),
         "C5" => then("the plan isn't valid", Place::Plan),
         "C6" => last("line # of the certificate is a split that isn't allowed"),
         "C7" => last("line # of the certificate is an entry or a cell that the rules don't allow"),

@@ -257,7 +257,7 @@ fn explains_refusals(rt: HostRuntime) -> Result<(), Fail> {
         ),
         (
             "C4",
-            "the claim of the certificate doesn't fit the plan text",
+            "the claim of the certificate doesn't fit the plan text, or that has a limit of version 1",
         ),
         (
             "C6 9",

@@ -61,6 +61,29 @@ fn check(alloc: Global) -> Result<Job, AllocError> {
     })
 }
 
+fn solve_in_json(alloc: Global, search: Search, improvements: u32) -> Result<Job, AllocError> {
+    Ok(Job::SolveInJson {
+        search,
+        map: owned(alloc, "m")?,
+        scen: owned(alloc, "s")?,
+        k: 7,
+        limit: 0,
+        improvements,
+        plan: owned(alloc, "p")?,
+        cert: owned(alloc, "c")?,
+    })
+}
+
+fn check_in_json(alloc: Global) -> Result<Job, AllocError> {
+    Ok(Job::CheckInJson {
+        map: owned(alloc, "m")?,
+        scen: owned(alloc, "s")?,
+        k: 1,
+        plan: owned(alloc, "p")?,
+        cert: owned(alloc, "c")?,
+    })
+}
+
 fn play(alloc: Global) -> Result<Job, AllocError> {
     Ok(Job::Play {
         map: owned(alloc, "m")?,
@@ -127,6 +150,35 @@ fn reads_improvements(rt: HostRuntime) -> Result<(), Fail> {
     Ok(())
 }
 
+// Plain search makes no improvements.
+const IN_JSON: &[(&str, Search, u32)] = &[
+    ("mapf solve --json m s 7 0 p c", Search::Cbs, 0),
+    ("mapf solve m s 7 0 p c --search cbs --json", Search::Cbs, 0),
+    (
+        "mapf solve m s 7 --search cbsh 0 p c --json",
+        Search::Cbsh,
+        350,
+    ),
+    (
+        "mapf solve --json --search cbsh --improve 9 m s 7 0 p c",
+        Search::Cbsh,
+        9,
+    ),
+];
+
+#[test]
+fn reads_that_an_object_is_asked_for(rt: HostRuntime) -> Result<(), Fail> {
+    let alloc = rt.alloc();
+    for (text, search, improvements) in IN_JSON {
+        let job = solve_in_json(alloc, *search, *improvements)?;
+        assert_job(&rt, alloc, text, job)?;
+    }
+    for text in ["mapf check --json m s 1 p c", "mapf check m s --json 1 p c"] {
+        assert_job(&rt, alloc, text, check_in_json(alloc)?)?;
+    }
+    Ok(())
+}
+
 fn print(rt: &HostRuntime, mark: &str, text: &str) -> io::Result<()> {
     println!(rt; "{mark}{text}")
 }
@@ -158,9 +210,15 @@ const REFUSED: &[&str] = &[
     "mapf solve --search cbsh --improve x m s 2 10 p c",
     "mapf check m s 201 p c",
     "mapf check m s 2 p c d",
+    "mapf check --json=true m s 2 p c",
+    "mapf check --jso m s 2 p c",
+    "mapf check --json m s 2 p c --json",
+    "mapf solve --json --improve 5 m s 2 10 p c",
+    "mapf solve --json m s 2 10 p p",
     "mapf play m s 2",
     "mapf play m s 0 p",
     "mapf play m s 201 p",
+    "mapf play --json m s 2 p",
     "mapf dispatch m s 2 p",
     "mapf dispatch m s 0 p e",
     "mapf dispatch m s 201 p e",

@@ -3,6 +3,7 @@ use Rattle.std.specs.Prelude.{◌≡◌, ℕ, pos, List, [], Some, codes, true}
 use Rattle.clap.specs.Words.{AddsSubcommand, App, Rule, Text, app_of, fault_of, new_app, new_rule, rows_of}
 use Rattle.clap.specs.Words.{subcommand_of}
 use Rattle.clap.specs.Words.{with_rule, with_subcommand}
+use Rattle.clap.specs.declared.builder.action.ArgAction.TheVariants.{SetTrue}
 use Rattle.clap.specs.declared.builder.command.Command.{Command}
 use Rattle.clap.specs.declared.parser.matches.Found.{Found}
 use Rattle.clap.specs.declared.builder.value_parser.ValueParser.TheVariants.{Signed}
@@ -32,23 +33,29 @@ option_argument name = record (new_rule name) { long = Some name; value_names = 
 abbrev pub number_option : Text → ℕ → ℕ → Rule
 number_option name low high = record (option_argument name) { parser = Some (Signed (pos low) (pos high)) }
 
+-- an option with this name and no value
+abbrev pub flag_argument : Text → Rule
+flag_argument name = record (new_rule name) { long = Some name; action = Some SetTrue }
+
 -- a command whose first arguments are MAP, SCEN and K
 abbrev pub command_on : Text → App
 command_on name =
     with_rule (with_rule (with_rule (new_app name) (file_argument (codes "MAP"))) (file_argument (codes "SCEN")))
     (number_argument (codes "K") 1 most_agents)
 
--- `solve [--search NAME] [--improve N] MAP SCEN K LIMIT PLAN CERT`
+-- `solve [--search NAME] [--improve N] [--json] MAP SCEN K LIMIT PLAN CERT`
 abbrev pub solve_command : App
 solve_command =
-    with_rule (with_rule (with_rule (with_rule (with_rule (command_on (codes "solve"))
+    with_rule (with_rule (with_rule (with_rule (with_rule (with_rule (command_on (codes "solve"))
     (number_argument (codes "LIMIT") 0 most_splits)) (file_argument (codes "PLAN"))) (file_argument (codes "CERT")))
-    (option_argument (codes "search"))) (number_option (codes "improve") 0 most_improvements)
+    (option_argument (codes "search"))) (number_option (codes "improve") 0 most_improvements))
+    (flag_argument (codes "json"))
 
--- `check MAP SCEN K PLAN CERT`
+-- `check [--json] MAP SCEN K PLAN CERT`
 abbrev pub check_command : App
 check_command =
-    with_rule (with_rule (command_on (codes "check")) (file_argument (codes "PLAN"))) (file_argument (codes "CERT"))
+    with_rule (with_rule (with_rule (command_on (codes "check")) (file_argument (codes "PLAN")))
+    (file_argument (codes "CERT"))) (flag_argument (codes "json"))
 
 -- `play MAP SCEN K PLAN`
 abbrev pub play_command : App

@@ -6,7 +6,8 @@ use Rattle.clap.specs.Matches.{first_value, one_text}
 use Rattle.clap.specs.declared.parser.matches.Found.{Found}
 use Rattle.mapf_model.specs.Limits.{most_agents, most_splits}
 use Rattle.mapf_words.specs.declared.job.Job.{Job}
-use Rattle.mapf_words.specs.declared.job.Job.TheVariants.{Demo, Solve, SolveBy, Check, Play, Dispatch, Explain}
+use Rattle.mapf_words.specs.declared.job.Job.TheVariants.{Demo, Solve, SolveBy, SolveInJson, Check, CheckInJson}
+use Rattle.mapf_words.specs.declared.job.Job.TheVariants.{Play, Dispatch, Explain}
 use Rattle.mapf_words.specs.declared.job.Search.{Search}
 use Rattle.mapf_words.specs.declared.job.Search.TheVariants.{Cbs, Cbsh}
 
@@ -24,7 +25,10 @@ IsInRange Demo = ⊤
 IsInRange (Solve map scen k limit plan cert) = (1 ≤ k) × (k ≤ most_agents) × (limit ≤ most_splits)
 IsInRange (SolveBy search map scen k limit improvements plan cert) =
     (1 ≤ k) × (k ≤ most_agents) × (limit ≤ most_splits) × (improvements ≤ most_improvements)
+IsInRange (SolveInJson search map scen k limit improvements plan cert) =
+    (1 ≤ k) × (k ≤ most_agents) × (limit ≤ most_splits) × (improvements ≤ most_improvements)
 IsInRange (Check map scen k plan cert) = (1 ≤ k) × (k ≤ most_agents)
+IsInRange (CheckInJson map scen k plan cert) = (1 ≤ k) × (k ≤ most_agents)
 IsInRange (Play map scen k plan) = (1 ≤ k) × (k ≤ most_agents)
 IsInRange (Dispatch map scen k plan events) = (1 ≤ k) × (k ≤ most_agents)
 IsInRange (Explain line) = ⊤
@@ -46,7 +50,10 @@ HasOwnOutputs (Solve map scen k limit plan cert) =
     AreOwnOutputs (string_bytes map) (string_bytes scen) (string_bytes plan) (string_bytes cert)
 HasOwnOutputs (SolveBy search map scen k limit improvements plan cert) =
     AreOwnOutputs (string_bytes map) (string_bytes scen) (string_bytes plan) (string_bytes cert)
+HasOwnOutputs (SolveInJson search map scen k limit improvements plan cert) =
+    AreOwnOutputs (string_bytes map) (string_bytes scen) (string_bytes plan) (string_bytes cert)
 HasOwnOutputs (Check map scen k plan cert) = ⊤
+HasOwnOutputs (CheckInJson map scen k plan cert) = ⊤
 HasOwnOutputs (Play map scen k plan) = ⊤
 HasOwnOutputs (Dispatch map scen k plan events) = ⊤
 HasOwnOutputs (Explain line) = ⊤
@@ -72,6 +79,15 @@ IsImprovementsOf found k n =
     ((first_value found (codes "improve") ≡ None) × (n ≡ improvements_for_each * k))
     ⊎ IsNumberOf found (codes "improve") n
 
+-- the same by this search; plain search takes no `--improve`, and makes none
+abbrev pub IsEffortOf : Found → Search → ℕ → ℕ → Type 0
+IsEffortOf found Cbs k n = (first_value found (codes "improve") ≡ None) × (n ≡ 0)
+IsEffortOf found Cbsh k n = IsImprovementsOf found k n
+
+-- the option `--json` is given
+abbrev pub AsksForJson : Found → Type 0
+AsksForJson found = first_value found (codes "json") ≡ Some (codes "true")
+
 -- the arguments of `solve` are these file names and numbers
 pub record IsSolveOf (command : List ℕ) (found : Found) (map scen : List ℕ) (k limit : ℕ) (plan cert : List ℕ)
     : Type 0 where
@@ -83,19 +99,35 @@ pub record IsSolveOf (command : List ℕ) (found : Found) (map scen : List ℕ) 
   pub plan_is : plan ≡ named found (codes "PLAN")
   pub cert_is : cert ≡ named found (codes "CERT")
 
--- a job of this command: its file names and its numbers are those of the arguments; plain search takes no `--improve`
+-- the arguments of `check` are these file names and this number
+pub record IsCheckOf (command : List ℕ) (found : Found) (map scen : List ℕ) (k : ℕ) (plan cert : List ℕ)
+    : Type 0 where
+  pub command_is : command ≡ codes "check"
+  pub map_is : map ≡ named found (codes "MAP")
+  pub scen_is : scen ≡ named found (codes "SCEN")
+  pub k_is : IsNumberOf found (codes "K") k
+  pub plan_is : plan ≡ named found (codes "PLAN")
+  pub cert_is : cert ≡ named found (codes "CERT")
+
+-- a job of this command: its file names and its numbers are those of the arguments; plain search takes no `--improve`,
+-- and an object of JSON is told if and only if it is asked for
 abbrev pub IsJobOf : List ℕ → Found → Job → Type 0
 IsJobOf command found Demo = ⊥
 IsJobOf command found (Solve map scen k limit plan cert) =
-    IsSearchOf found Cbs × (first_value found (codes "improve") ≡ None)
+    (AsksForJson found → ⊥) × IsSearchOf found Cbs × (first_value found (codes "improve") ≡ None)
     × IsSolveOf command found (string_bytes map) (string_bytes scen) k limit (string_bytes plan) (string_bytes cert)
 IsJobOf command found (SolveBy search map scen k limit improvements plan cert) =
-    IsSearchOf found search × (search ≢ Cbs) × IsImprovementsOf found k improvements
+    (AsksForJson found → ⊥) × IsSearchOf found search × (search ≢ Cbs) × IsImprovementsOf found k improvements
+    × IsSolveOf command found (string_bytes map) (string_bytes scen) k limit (string_bytes plan) (string_bytes cert)
+IsJobOf command found (SolveInJson search map scen k limit improvements plan cert) =
+    AsksForJson found × IsSearchOf found search × IsEffortOf found search k improvements
     × IsSolveOf command found (string_bytes map) (string_bytes scen) k limit (string_bytes plan) (string_bytes cert)
 IsJobOf command found (Check map scen k plan cert) =
-    (command ≡ codes "check") × (string_bytes map ≡ named found (codes "MAP"))
-    × (string_bytes scen ≡ named found (codes "SCEN")) × IsNumberOf found (codes "K") k
-    × (string_bytes plan ≡ named found (codes "PLAN")) × (string_bytes cert ≡ named found (codes "CERT"))
+    (AsksForJson found → ⊥)
+    × IsCheckOf command found (string_bytes map) (string_bytes scen) k (string_bytes plan) (string_bytes cert)
+IsJobOf command found (CheckInJson map scen k plan cert) =
+    AsksForJson found
+    × IsCheckOf command found (string_bytes map) (string_bytes scen) k (string_bytes plan) (string_bytes cert)
 IsJobOf command found (Play map scen k plan) =
     (command ≡ codes "play") × (string_bytes map ≡ named found (codes "MAP"))
     × (string_bytes scen ≡ named found (codes "SCEN")) × IsNumberOf found (codes "K") k

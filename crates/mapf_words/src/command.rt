@@ -2,13 +2,13 @@
 ghost use Rattle.std.specs.Prelude.{◌≡◌, codes, false, IfOk};
 ghost use Rattle.clap.specs.Words.{app_of, rule_of};
 ghost use Rattle.mapf_words.specs.CommandLine.{IsCommand, check_command, dispatch_command, explain_command};
-ghost use Rattle.mapf_words.specs.CommandLine.{file_argument};
+ghost use Rattle.mapf_words.specs.CommandLine.{file_argument, flag_argument};
 ghost use Rattle.mapf_words.specs.CommandLine.{mapf_command, number_argument, number_option, option_argument};
 ghost use Rattle.mapf_words.specs.CommandLine.{play_command, program, solve_command};
 ghost use Rattle.mapf_words.specs.Jobs.{most_improvements};
 
 use crate::job::MOST_IMPROVEMENTS;
-use clap::{Arg, Command, value_parser};
+use clap::{Arg, ArgAction, Command, value_parser};
 use mapf_model::limits::{MOST_AGENTS, MOST_SPLITS};
 use mapf_model::{most_agents, most_splits};
 use std::alloc::{AllocError, Global};
@@ -173,6 +173,8 @@ const IMPROVE: &str =
 
 const LIMIT: &str = most_splits!("How often the search may split on a conflict, 0 to ");
 
+const JSON: &str = "Print one JSON object in place of the line, and one for an error too";
+
 fn file<'a>(alloc: Global, name: &'a str, help: &'a str) -> Arg<'a>
     ensures rule { rule_of result ≡ file_argument name.entry.now }
     ensures local { result.global ≡ false }
@@ -213,6 +215,17 @@ fn improve<'a>(alloc: Global) -> Arg<'a>
         .help(IMPROVE)
 }
 
+// Returns the flag by which an object of JSON is asked for.
+fn json<'a>(alloc: Global) -> Arg<'a>
+    ensures rule { rule_of result ≡ flag_argument (codes "json") }
+    ensures local { result.global ≡ false }
+{
+    Arg::new(alloc, "json")
+        .long("json")
+        .action(ArgAction::SetTrue)
+        .help(JSON)
+}
+
 fn solve<'a>(alloc: Global) -> Result<Command<'a>, AllocError>
     ensures { IfOk result (IsCommand solve_command) }
 {
@@ -226,7 +239,8 @@ fn solve<'a>(alloc: Global) -> Result<Command<'a>, AllocError>
         .arg(file(alloc, "PLAN", "Where the plan text is written"))?
         .arg(file(alloc, "CERT", "Where the certificate is written"))?
         .arg(search(alloc))?
-        .arg(improve(alloc))
+        .arg(improve(alloc))?
+        .arg(json(alloc))
 }
 
 fn check<'a>(alloc: Global) -> Result<Command<'a>, AllocError>
@@ -239,7 +253,8 @@ fn check<'a>(alloc: Global) -> Result<Command<'a>, AllocError>
         .arg(file(alloc, "SCEN", SCEN))?
         .arg(number(alloc, "K", 1, MOST_AGENTS, K))?
         .arg(file(alloc, "PLAN", "The plan text, as solve wrote it"))?
-        .arg(file(alloc, "CERT", "The certificate, as solve wrote it"))
+        .arg(file(alloc, "CERT", "The certificate, as solve wrote it"))?
+        .arg(json(alloc))
 }
 
 fn play<'a>(alloc: Global) -> Result<Command<'a>, AllocError>

@@ -44,8 +44,31 @@ pub enum Job {
         plan: String,
         cert: String,
     },
+    /// Search by the search of this name, and tell the answer as an object of JSON.
+    SolveInJson {
+        search: Search,
+        map: String,
+        scen: String,
+        /// 1 to 200.
+        k: u32,
+        /// 0 to 100,000.
+        limit: u32,
+        /// How many improvements of a first plan are tried: 0 to 1,000,000, and 0 by plain search.
+        improvements: u32,
+        plan: String,
+        cert: String,
+    },
     /// Check a plan text and a certificate for the first `k` agents.
     Check {
+        map: String,
+        scen: String,
+        /// 1 to 200.
+        k: u32,
+        plan: String,
+        cert: String,
+    },
+    /// The same, and tell the verdict as an object of JSON.
+    CheckInJson {
         map: String,
         scen: String,
         /// 1 to 200.

@@ -1,10 +1,11 @@
 //! The reader of arguments: it makes a job of them, or says why there is none. `main` calls it.
-ghost use Rattle.std.specs.Prelude.{◌≡◌, ◌⊎◌, ◌≤◌, ◌<◌, ◌↔◌, ℕ, None, IfOk, OnOk, Ok, codes, map, vec_len};
+ghost use Rattle.std.specs.Prelude.{◌≡◌, ◌⊎◌, ◌≤◌, ◌<◌, ◌↔◌, ℕ, None, IfOk, OnOk, Ok, IsTrue, codes, map, vec_len};
 ghost use Rattle.std.specs.String.{string_bytes};
 ghost use Rattle.clap.specs.Matches.{first_value, found_of};
 ghost use Rattle.mapf_words.specs.CommandLine.{IsReadFrom};
-ghost use Rattle.mapf_words.specs.Jobs.{AreDistinctNames, AreOwnOutputs, HasOwnOutputs, IsInRange, IsJobOf, IsNumberOf};
-ghost use Rattle.mapf_words.specs.Jobs.{IsImprovementsOf, IsSearchOf, most_improvements, named};
+ghost use Rattle.mapf_words.specs.Jobs.{AreDistinctNames, AreOwnOutputs, AsksForJson, HasOwnOutputs, IsEffortOf};
+ghost use Rattle.mapf_words.specs.Jobs.{IsImprovementsOf, IsInRange, IsJobOf, IsNumberOf, IsSearchOf};
+ghost use Rattle.mapf_words.specs.Jobs.{most_improvements, named};
 ghost use Rattle.mapf_model.specs.Limits.{most_agents};
 
 use crate::command::mapf;
@@ -112,6 +113,36 @@ fn no_improvements(alloc: Global, given: &ArgMatches<'_>) -> Result<(), WordsFau
     }
 }
 
+// Returns how many improvements of a first plan this search is to try.
+fn effort_of(
+    alloc: Global,
+    given: &ArgMatches<'_>,
+    search: Search,
+    k: u32,
+) -> Result<u32, WordsFault>
+    requires { k ≤ most_agents }
+    ensures range { IfOk result (λ n. n ≤ most_improvements) }
+    ensures number { IfOk result (IsEffortOf (found_of given.now) search k) }
+{
+    match search {
+        Search::Cbs => {
+            no_improvements(alloc, given)?;
+            Ok(0)
+        }
+        Search::Cbsh => improvements_of(alloc, given, k),
+    }
+}
+
+// Returns whether the option `--json` is given.
+fn asks_for_json(given: &ArgMatches<'_>) -> bool
+    ensures { IsTrue result ↔ AsksForJson (found_of given.now) }
+{
+    match given.get_str("json") {
+        Some(text) => text == "true",
+        None => false,
+    }
+}
+
 fn solve_of(alloc: Global, given: &ArgMatches<'_>) -> Result<Job, WordsFault>
     ensures range { IfOk result IsInRange }
     ensures named { IfOk result (IsJobOf (codes "solve") (found_of given.now)) }
@@ -125,29 +156,39 @@ fn solve_of(alloc: Global, given: &ArgMatches<'_>) -> Result<Job, WordsFault>
     let plan = text_of(alloc, given, "PLAN")?;
     let cert = text_of(alloc, given, "CERT")?;
     own_outputs(alloc, &map, &scen, &plan, &cert)?;
-    match search {
-        Search::Cbs => {
-            no_improvements(alloc, given)?;
-            Ok(Job::Solve {
-                map,
-                scen,
-                k,
-                limit,
-                plan,
-                cert,
-            })
-        }
-        Search::Cbsh => Ok(Job::SolveBy {
+    let improvements = effort_of(alloc, given, search, k)?;
+    if asks_for_json(given) {
+        return Ok(Job::SolveInJson {
             search,
             map,
             scen,
             k,
             limit,
-            improvements: improvements_of(alloc, given, k)?,
+            improvements,
             plan,
             cert,
-        }),
+        });
     }
+    Ok(match search {
+        Search::Cbs => Job::Solve {
+            map,
+            scen,
+            k,
+            limit,
+            plan,
+            cert,
+        },
+        Search::Cbsh => Job::SolveBy {
+            search,
+            map,
+            scen,
+            k,
+            limit,
+            improvements,
+            plan,
+            cert,
+        },
+    })
 }
 
 fn check_of(alloc: Global, given: &ArgMatches<'_>) -> Result<Job, WordsFault>
@@ -155,12 +196,26 @@ fn check_of(alloc: Global, given: &ArgMatches<'_>) -> Result<Job, WordsFault>
     ensures named { IfOk result (IsJobOf (codes "check") (found_of given.now)) }
     ensures own { IfOk result HasOwnOutputs }
 {
+    let map = text_of(alloc, given, "MAP")?;
+    let scen = text_of(alloc, given, "SCEN")?;
+    let agents = number_of(alloc, given, "K", 1, MOST_AGENTS)?;
+    let plan = text_of(alloc, given, "PLAN")?;
+    let cert = text_of(alloc, given, "CERT")?;
+    if asks_for_json(given) {
+        return Ok(Job::CheckInJson {
+            map,
+            scen,
+            k: agents,
+            plan,
+            cert,
+        });
+    }
     Ok(Job::Check {
-        map: text_of(alloc, given, "MAP")?,
-        scen: text_of(alloc, given, "SCEN")?,
-        k: number_of(alloc, given, "K", 1, MOST_AGENTS)?,
-        plan: text_of(alloc, given, "PLAN")?,
-        cert: text_of(alloc, given, "CERT")?,
+        map,
+        scen,
+        k: agents,
+        plan,
+        cert,
     })
 }
 

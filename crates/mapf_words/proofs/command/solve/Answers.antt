@@ -7,11 +7,12 @@ use Rattle.mapf_words.proofs.command.solve.Goals as goal
 pub returns : goal.returns
 returns c =
     let new : app_of c.after_help.result ≡ new_app (codes "solve") = rw (c.after_help.ensures, c.about.ensures) c.new.ensures.app in
-    IfOk-weaker c.arg-8.result _ _ (λ command adds.
-    let is : app_of command ≡ solve_command = adds.shape c.improve.ensures.local ∙ ap₂ with_rule (c.in_ok-arg-7.ensures.shape c.search.ensures.local ∙ ap₂ with_rule (c.in_ok-arg-6.ensures.shape c.file-4.ensures.local ∙ ap₂ with_rule (c.in_ok-arg-5.ensures.shape c.file-3.ensures.local ∙ ap₂ with_rule (c.in_ok-arg-4.ensures.shape c.number-2.ensures.local ∙ ap₂ with_rule (c.in_ok-arg-3.ensures.shape c.number.ensures.local ∙ ap₂ with_rule (c.in_ok-arg-2.ensures.shape c.file-2.ensures.local ∙ ap₂ with_rule (c.in_ok-arg.ensures.shape c.file.ensures.local ∙ ap₂ with_rule new c.file.ensures.rule) c.file-2.ensures.rule) c.number.ensures.rule) c.number-2.ensures.rule) c.file-3.ensures.rule) c.file-4.ensures.rule) c.search.ensures.rule) c.improve.ensures.rule in (
+    IfOk-weaker c.arg-9.result _ _ (λ command adds.
+    let is : app_of command ≡ solve_command = adds.shape c.json.ensures.local ∙ ap₂ with_rule (c.in_ok-arg-8.ensures.shape c.improve.ensures.local ∙ ap₂ with_rule (c.in_ok-arg-7.ensures.shape c.search.ensures.local ∙ ap₂ with_rule (c.in_ok-arg-6.ensures.shape c.file-4.ensures.local ∙ ap₂ with_rule (c.in_ok-arg-5.ensures.shape c.file-3.ensures.local ∙ ap₂ with_rule (c.in_ok-arg-4.ensures.shape c.number-2.ensures.local ∙ ap₂ with_rule (c.in_ok-arg-3.ensures.shape c.number.ensures.local ∙ ap₂ with_rule (c.in_ok-arg-2.ensures.shape c.file-2.ensures.local ∙ ap₂ with_rule (c.in_ok-arg.ensures.shape c.file.ensures.local ∙ ap₂ with_rule new c.file.ensures.rule) c.file-2.ensures.rule) c.number.ensures.rule) c.number-2.ensures.rule) c.file-3.ensures.rule) c.file-4.ensures.rule) c.search.ensures.rule) c.improve.ensures.rule) c.json.ensures.rule in (
       is,
       λ old after added. added.shape (rw (
         adds.globals,
+        c.in_ok-arg-8.ensures.globals,
         c.in_ok-arg-7.ensures.globals,
         c.in_ok-arg-6.ensures.globals,
         c.in_ok-arg-5.ensures.globals,
@@ -19,6 +20,7 @@ returns c =
         c.in_ok-arg-3.ensures.globals,
         c.in_ok-arg-2.ensures.globals,
         c.in_ok-arg.ensures.globals,
+        c.json.ensures.local,
         c.improve.ensures.local,
         c.search.ensures.local,
         c.file-4.ensures.local,
@@ -31,4 +33,4 @@ returns c =
         c.about.ensures,
         c.new.ensures.local,
       ) refl) ∙ ap (λ (app : App). with_subcommand (app_of old) app.top) is,
-    )) c.arg-8.ensures
+    )) c.arg-9.ensures

@@ -1,0 +1,4 @@
+pub mod Objects
+pub mod Answers
+pub mod Faults
+pub mod Written
