@@ -13,7 +13,7 @@ from pathlib import Path
 
 HERE = Path(__file__).resolve().parent
 PACKAGE = HERE / "mapf_tools"
-COMMANDS = "draw", "recheck", "sweep", "trim", "verify"
+COMMANDS = "draw", "manual", "recheck", "sweep", "trim", "uncycle", "verify"
 
 # The endings of the files of which the package is made, and the files that a source archive has besides.
 ENDINGS = ".py", ".typed", ".css", ".html", ".js"

@@ -118,9 +118,10 @@ class Browser:
         self.ask("Emulation.setDeviceMetricsOverride", width=width, height=height,
                  deviceScaleFactor=2 if is_phone else 1, mobile=is_phone)
 
-    def prefer(self, scheme):
-        """Prefers light or dark pages."""
-        self.ask("Emulation.setEmulatedMedia", features=[{"name": "prefers-color-scheme", "value": scheme}])
+    def prefer(self, scheme, motion="no-preference"):
+        """Prefers light or dark pages, and much motion or little."""
+        wishes = {"prefers-color-scheme": scheme, "prefers-reduced-motion": motion}
+        self.ask("Emulation.setEmulatedMedia", features=[{"name": name, "value": wishes[name]} for name in wishes])
 
     def open(self, address):
         """Opens a page, and waits until it is loaded."""
@@ -143,9 +144,23 @@ class Browser:
         return found["result"].get("value")
 
     def press(self, key, code=None):
-        text = {"text": key} if len(key) == 1 else {}
+        text = {"text": "\r" if key == "Enter" else key} if len(key) == 1 or key == "Enter" else {}
         self.ask("Input.dispatchKeyEvent", type="keyDown", key=key, code=code or key, **text)
         self.ask("Input.dispatchKeyEvent", type="keyUp", key=key, code=code or key)
+        self.settle()
+
+    def tab(self):
+        """Goes on to the next control."""
+        self.control("Tab", 9)
+
+    def enter(self):
+        """Presses the control that has the focus."""
+        self.control("Enter", 13, text="\r")
+
+    def control(self, key, number, **text):
+        """Presses a key by which a browser itself acts. It knows it by its number."""
+        for kind, more in (("keyDown", text), ("keyUp", {})):
+            self.ask("Input.dispatchKeyEvent", type=kind, key=key, code=key, windowsVirtualKeyCode=number, **more)
         self.settle()
 
     def mouse(self, kind, x, y, **values):
@@ -162,6 +177,20 @@ class Browser:
         self.value(f"{found}.scrollIntoView({{ block: 'nearest' }})")
         self.click(*self.value(
             f"(box => [box.left + box.width / 2, box.top + box.height / 2])({found}.getBoundingClientRect())"))
+
+    def choose(self, place, files):
+        """Chooses files in the field of this selector."""
+        root = self.ask("DOM.getDocument")["root"]["nodeId"]
+        node = self.ask("DOM.querySelector", nodeId=root, selector=place)["nodeId"]
+        self.ask("DOM.setFileInputFiles", nodeId=node, files=list(map(str, files)))
+        self.settle()
+
+    def drop(self, files, x, y):
+        """Drops files, or folders, on a point of the page."""
+        data = {"items": [], "files": list(map(str, files)), "dragOperationsMask": 1}
+        for kind in ("dragEnter", "dragOver", "drop"):
+            self.ask("Input.dispatchDragEvent", type=kind, x=x, y=y, data=data)
+        self.settle()
 
     def png(self):
         self.settle()

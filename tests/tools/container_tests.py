@@ -1,5 +1,5 @@
-"""Tries Dockerfile: builds the image of the archive of ./dist, where docker or podman works and the image on which it
-rests can be had, and runs the program and the tools in it.
+"""Tries Dockerfile by docker and by podman, each where it works and has the image on which ours rests: builds the image
+of the archive of ./dist, and runs the program and the tools in it.
 """
 
 import re
@@ -13,14 +13,16 @@ from harness import TESTS
 
 TOP = TESTS.parent
 CROSSING = TESTS / "cases" / "solve-crossing"
+ENGINES = "docker", "podman"
 IMAGE = "localhost/mapf-tried-by-its-tests"
 
 # What may take long: the first image has to be fetched.
 SECONDS = 900
 
-# What is run in a container, and what it has to print.
+# What is run in a container, one after the other, and what it has to print.
 RUNS = {
-    "mapf": (["mapf", "check", "map", "scen", "2", "plan", "cert"], "optimal 5\n"),
+    "solve": (["mapf", "solve", "map", "scen", "2", "100", "new-plan", "new-cert"], "cost 5\n"),
+    "check": (["mapf", "check", "map", "scen", "2", "new-plan", "new-cert"], "optimal 5\n"),
     "recheck": (["recheck", "map", "scen", "2", "plan", "cert"], "optimal 5\n"),
     "verify": (["verify", "map", "scen", "2", "plan"], "cheapest: 5\n"),
     "draw": (["sh", "-c", "draw map scen 2 plan | tail -n 1"], "</html>\n"),
@@ -29,20 +31,26 @@ RUNS = {
 
 def tests(tally):
     tally.add("container, what goes into it", context_faults())
-    engine = next(filter(is_working, ("docker", "podman")), None)
-    if engine is None:
-        tally.skip("container", "neither docker nor podman works")
-        return
     base = re.search("(?m)^ARG BASE=(.+)$", (TOP / "Dockerfile").read_text())[1]
+    for engine in ENGINES:
+        hindrance = hindrance_of(engine, base)
+        if hindrance is not None:
+            tally.skip(f"container, {engine}", hindrance)
+            continue
+        with tempfile.TemporaryDirectory() as name:
+            try_image(tally, engine, Path(name))
+
+
+def hindrance_of(engine, base):
+    """Why an engine can't build and run an image that rests on this one, None where it can."""
+    if shutil.which(engine) is None:
+        return "it isn't installed"
+    if ended(engine, "info").returncode != 0:
+        return "it doesn't work"
     if ended(engine, "image", "inspect", base).returncode != 0 and ended(engine, "pull", base).returncode != 0:
-        tally.skip("container", f"{base} can't be had")
-        return
-    with tempfile.TemporaryDirectory() as name:
-        try_image(tally, engine, Path(name))
-
-
-def is_working(engine):
-    return shutil.which(engine) is not None and ended(engine, "info").returncode == 0
+        return f"{base} can't be had"
+    run = ended(engine, "run", "--rm", base, "true")
+    return None if run.returncode == 0 else f"it can't run {base}: {run.stderr[-300:]!r}"
 
 
 def ended(*words, cwd=None):
@@ -63,11 +71,12 @@ def try_image(tally, engine, folder):
         shutil.copyfile(TOP / name, folder / name)
     built = ended(engine, "build", "--tag", IMAGE, ".", cwd=folder)
     faults = [] if made.returncode == built.returncode == 0 else [f"{made.stderr[-300:]}, {built.stderr[-500:]}"]
-    tally.add("container, built", faults)
+    tally.add(f"container, built by {engine}", faults)
     if faults:
         return
     case = shutil.copytree(CROSSING, folder / "case")
     for title, (words, wanted) in RUNS.items():
         run = ended(engine, "run", "--rm", "--volume", f"{case}:/work", IMAGE, *words)
-        tally.add(f"container, {title}", [] if run.stdout == wanted else [f"{run.stdout!r}, {run.stderr[-300:]!r}"])
+        faults = [] if run.stdout == wanted else [f"{run.stdout!r}, {run.stderr[-300:]!r}"]
+        tally.add(f"container, {engine}, {title}", faults)
     ended(engine, "image", "rm", IMAGE)

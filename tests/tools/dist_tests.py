@@ -19,7 +19,7 @@ TOP = TESTS.parent
 COMMANDS = "env", "ls", "cat", "sha256sum"
 
 # The tools of which the help has an example that can be tried.
-HELPFUL = "tools/verify", "tools/draw", "tools/recheck", "tools/trim", "tools/sweep"
+HELPFUL = "tools/verify", "tools/draw", "tools/recheck", "tools/trim", "tools/uncycle", "tools/sweep"
 
 GRID, SCEN = "examples/random-32-32.map", "examples/random-32-32.scen"
 
@@ -46,6 +46,7 @@ def tests(tally):
         path = commands(folder / "bin")
         for title, (words, status, said) in runs(place).items():
             tally.add(f"dist, unpacked, {title}", run_faults(place, path, words, status, said))
+        tally.add("dist, the man page and the completions", shared_faults(place))
 
 
 def made(folder):
@@ -112,6 +113,18 @@ def missing_files(place):
     return lost if named else ["no command of the documents names a file"]
 
 
+def shared_faults(place):
+    """What the archive has below `share` is what its own tools/manual wrote, apart from the page's first line, which
+    has the date."""
+    folders = place / "share", place / "shared"
+    names = [sorted(str(path.relative_to(folder)) for path in folder.rglob("*") if path.is_file())
+             for folder in folders]
+    if len(names[0]) != 4 or names[0] != names[1]:
+        return [f"there are {names[0]}, and it wrote {names[1]}"]
+    texts = [[(folder / name).read_text().splitlines() for name in names[0]] for folder in folders]
+    return [f"{name} differs" for name, one, other in zip(names[0], *texts) if one[1:] != other[1:]]
+
+
 def missing_links(place):
     """The files to which documents in the archive link, and that aren't in it."""
     return [f"{document.name}: {link} isn't there" for document in sorted(place.rglob("*.md"))
@@ -144,6 +157,7 @@ def runs(place):
         "check": (["./mapf", "check", *problem, "plan.txt", "cert.txt"], 0, "optimal 104\n"),
         "checksums": (["sha256sum", "--quiet", "-c", "SHA256SUMS"], 0, ""),
         "draw": (["tools/draw", *problem, "plan.txt"], 0, "</html>\n"),
+        "manual": (["tools/manual", "shared"], 0, "shared/man/man1/mapf.1\n"),
     }
     if (place / "tools" / "recheck").exists():
         found["recheck"] = (["tools/recheck", *problem, "plan.txt", "cert.txt"], 0, "optimal 104\n")

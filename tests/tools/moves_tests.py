@@ -71,7 +71,13 @@ def by_options():
         upward,
         Asked("such moves read as they are", upward.answer, 1, "not valid: agent 1 goes from (1,0) to (1,-1) after "
               "tick 1, and (1,-1) is outside the map\nand agent 1 goes from (1,-1) to (1,-2) after tick 2, and (1,-2) "
-              "is outside the map\nand agent 1 ends in (1,-2), and its goal is (1,2)\n"),
+              "is outside the map\nand agent 1 ends in (1,-2), and its goal is (1,2)\nwith up and down exchanged the "
+              "plan is valid: add --exchange-ud\n"),
+        Asked("such moves with another fault", "r\nwuu\n", 1, "not valid: agent 0 ends in (1,1), and its goal is (2,1)"
+              "\nand agent 1 goes from (1,0) to (1,-1) after tick 1, and (1,-1) is outside the map\nand agent 1 goes "
+              "from (1,-1) to (1,-2) after tick 2, and (1,-2) is outside the map\nand agent 1 ends in (1,-2), and its "
+              "goal is (1,2)\nwith up and down exchanged no agent leaves the map: see whether rows are counted from "
+              "below, and add --exchange-ud\n"),
         Asked("moves with x and y exchanged", "dd\nwrr\n", 0, "cheapest: 5\n", more=["--exchange-xy"]),
         Asked("moves that are named", "\nwdd\n", 1, "not valid: agent 0 ends in (0,1), and its goal is (2,1)\n",
               more=["--format", "moves"]),

@@ -80,7 +80,8 @@ def version_faults():
 
 
 def misuse_faults():
-    """Plans that aren't for the agents are no valid ones, and files that aren't as they should be are told."""
+    """Plans that aren't for the agents are no valid ones, files that aren't as they should be are told, and so are
+    numbers of agents. A plan text has no waits at the end of a path."""
     grid = mapf_tools.read_map(CROSSING / "map")
     agents = mapf_tools.read_scenario(CROSSING / "scen", grid, 2)
     faults = []
@@ -89,6 +90,14 @@ def misuse_faults():
             faults.append(f"{plan} has the faults {mapf_tools.faults_of_plan(grid, agents, plan)}")
         except ValueError:
             pass
+    for count in (0, -1, 201):
+        try:
+            faults.append(f"{count} agents are {mapf_tools.read_scenario(CROSSING / 'scen', grid, count)}")
+        except ValueError:
+            pass
+    padded = [[*path, path[-1], path[-1]] for path in mapf_tools.read_plan(CROSSING / "plan", agents)]
+    if mapf_tools.plan_text(padded) != (CROSSING / "plan").read_text():
+        faults.append(f"{padded} is written as {mapf_tools.plan_text(padded)!r}")
     case = [CROSSING / "map", CROSSING / "scen", 2, CROSSING / "plan", CROSSING / "cert"]
     for call, words in ((mapf_tools.read_certificate, [CROSSING / "plan"]),
                         (mapf_tools.read_certificate, [CROSSING / "none"]),
@@ -175,6 +184,8 @@ def commands(place):
     texts = [str(CROSSING / "plan"), str(CROSSING / "cert")]
     split = "vertex 0 1 1,1 1 0\nleaf 1\nagent 0 1\nat 0,1 0 3\nleaf 1\nagent 1 1\nat 1,0 0 3\nend\n"
     return [("recheck", [*problem, *texts], "optimal 5\n"), ("trim", [*problem, *texts], split),
+            ("manual", [str(place / "shared")], "/fish/vendor_completions.d/mapf.fish\n"),
+            ("uncycle", [*problem, texts[0]], "\npath 1 2 1,0 1,1 1,2\nend\n"),
             ("draw", [*problem, texts[0]], "</html>\n"), ("verify", [*problem, texts[0]], "cheapest: 5\n"),
             ("sweep", [str(CROSSING), str(CROSSING), str(place / "swept")], "")]
 

@@ -8,7 +8,8 @@ import sys
 from harness import TESTS
 
 TOP = TESTS.parent
-TOOLS = ("tools/verify", "tools/draw", "tools/sweep", "tools/recheck", "tools/trim", "dist", "examples/make_benchmark")
+TOOLS = ("tools/verify", "tools/draw", "tools/sweep", "tools/recheck", "tools/trim", "tools/manual", "tools/uncycle",
+         "dist", "examples/make_benchmark")
 
 # The Python of which a file may have the forms: one reads the whole file before it runs the first line.
 FORMS = (3, 7)

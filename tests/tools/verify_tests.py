@@ -375,6 +375,10 @@ def that_are_not_valid():
             "agent 1 begins in (0,1), and its start is (1,0)", "agent 1 ends in (2,1), and its goal is (1,2)"],
             "with x and y exchanged each agent begins at its start: see whether the format is the right one, or add "
             "--exchange-xy\n"),
+        "cells counted from 1": ("Agent 0: (2,1)->\nAgent 1: (1,2)->\n", [
+            "agent 0 begins in (1,2), and its start is (0,1)", "agent 0 ends in (1,2), and its goal is (2,1)",
+            "agent 1 begins in (2,1), and its start is (1,0)", "agent 1 ends in (2,1), and its goal is (1,2)"],
+            "with 1 less in x and y each agent begins at its start: cells are counted from 0, and here from 1\n"),
         "another problem": ("Agent 0: (2,2)->\nAgent 1: (0,0)->\n", [
             "agent 0 begins in (2,2), and its start is (0,1)", "agent 0 ends in (2,2), and its goal is (2,1)",
             "agent 1 begins in (0,0), and its start is (1,0)", "agent 1 ends in (0,0), and its goal is (1,2)"],

@@ -8,23 +8,12 @@ from pathlib import Path
 
 from . import recheck
 from .answers import read_answer
+from .certificate_heads import Certificate, read_certificate
 from .draw import data_of, page_of
 from .pictures import Scene, gif_of, png_of
 from .plans import Agent, Cell, Fault, Grid, faults_of
 from .process import ToolError
-from .texts import read_agents
-
-
-@dataclass(frozen=True)
-class Certificate:
-    """The head of a certificate: its version, its number of agents, and what it claims, which is 'cost', 'bound' or
-    'impossible'. `number` is the cost or the bound, None of 'impossible'.
-    """
-
-    version: int
-    agents: int
-    claim: str
-    number: int | None
+from .texts import MOST_AGENTS, read_agents
 
 
 @dataclass(frozen=True)
@@ -39,7 +28,9 @@ class Verdict:
 
 
 def read_scenario(path: str | Path, grid: Grid, count: int) -> list[Agent]:
-    """The first agents of a scenario for this map, so many."""
+    """The first agents of a scenario for this map, so many: 1 to 200."""
+    if not 1 <= count <= MOST_AGENTS:
+        raise ValueError(f"{count} agents are asked for, and there may be 1 to {MOST_AGENTS}")
     return read_agents(path, grid, count)
 
 
@@ -58,23 +49,6 @@ def faults_of_plan(grid: Grid, agents: Sequence[Agent], plan: Sequence[list[Cell
     if not all(plan):
         raise ValueError("a path has no cell")
     return faults_of(grid, agents, list(plan)) if plan else []
-
-
-def read_certificate(path: str | Path) -> Certificate:
-    """The head of the certificate in a file. Nothing of the rest is read."""
-    try:
-        with open(path, "rb") as file:
-            lines = recheck.Lines(file, "C2 K", recheck.LONGEST_LINE)
-            version = lines.title("mapf-cert", 3)
-            ranges = recheck.ranges_of((1, 1, set()), 1, 0)
-            agents: int = lines.take(["agents K"], ranges)[1][0]
-            shape, numbers = lines.take(recheck.CLAIMS[version], ranges)
-    except OSError as error:
-        raise ToolError(f"{path} can't be read: {error.strerror}") from None
-    except recheck.Refused:
-        raise ToolError(f"{path}, line {lines.number}: a certificate begins with 'mapf-cert V', 'agents K' and a claim "
-                        "as docs/FORMATS.md shows them") from None
-    return Certificate(version, agents, shape.split(" ")[1], numbers[0] if numbers else None)
 
 
 def recheck_certificate(map_file: str | Path, scenario_file: str | Path, count: int, plan_file: str | Path,

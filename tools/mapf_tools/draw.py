@@ -12,6 +12,7 @@ from pathlib import Path
 from typing import Any, NoReturn
 
 from .answers import add_options, read_answer
+from .certificate_page import certificate_data
 from .colours import colours
 from .pictures import Scene, gif_of, png_of
 from .plans import Agent, Cell, Fault, Grid, conflicts_at, cost_of, cut_waits, faults_of_path, ticks_of
@@ -20,7 +21,8 @@ from .texts import number_between, problem_parser, read_agents, read_map
 
 # What the page is made of.
 PAGE = Path(__file__).resolve().parent / "page"
-SCRIPTS = "plan.js", "map.js", "page.js"
+STYLES = "theme.css", "page.css", "tree.css"
+SCRIPTS = "plan.js", "map.js", "certificate.js", "tree.js", "labels.js", "search.js", "page.js"
 
 # How many faults of a plan the page lists.
 MOST_FAULTS = 1000
@@ -36,12 +38,17 @@ example:
   ./mapf solve examples/random-32-32.map examples/random-32-32.scen 8 100 plan.txt cert.txt
   tools/draw examples/random-32-32.map examples/random-32-32.scen 8 plan.txt > plan.html
   tools/draw examples/random-32-32.map examples/random-32-32.scen 8 plan.txt --gif > plan.gif
+  tools/draw examples/random-32-32.map examples/random-32-32.scen 8 plan.txt --cert cert.txt > plan.html
+
+A certificate is judged by tools/recheck before the page is written. That takes a minute for 15 MB, and gigabytes of
+memory for many agents on large maps.
 
 The page needs no network and no other file. Behind '#' the page's address may name the tick at which it opens,
 and an agent to be picked: plan.html#tick=12&agent=3
 
 exit status:
-  0    the page, picture or film is written; also of a plan that isn't valid, whose faults it marks
+  0    the page, picture or film is written; also of a plan that isn't valid, whose faults it marks, and beside a
+       certificate that is refused
   2    an error, with a message on standard error"""
 
 
@@ -57,7 +64,11 @@ def main() -> int:
     faults = list(islice(all_faults(grid, agents, paths), MOST_FAULTS + 1))
     names = [Path(name).name for name in (words.map, words.scen, words.plan)]
     if kind == "html":
-        sys.stdout.write(page_of(names, data_of(names, grid, agents, paths, faults)))
+        data = data_of(names, grid, agents, paths, faults)
+        if words.cert is not None:
+            data["certificate"] = certificate_data(words.cert, grid, agents, paths)
+            tell_refusal(data["certificate"]["verdict"])
+        sys.stdout.write(page_of(names, data))
     else:
         write_picture(Scene(grid, agents, paths, faults), words.png)
     if faults:
@@ -65,6 +76,14 @@ def main() -> int:
         done = "the page marks and lists them" if kind == "html" else "a page, without an option, lists them"
         print(f"draw: the plan isn't valid, faults: {count}; {done}", file=sys.stderr)
     return 0
+
+
+def tell_refusal(verdict: str) -> None:
+    """Tells on standard error of a certificate that tools/recheck doesn't accept."""
+    if verdict.startswith("refused "):
+        shown = "nothing of the certificate" if verdict.startswith("refused C5") else (
+            "the certificate as far as it was read")
+        print(f"draw: tools/recheck says '{verdict}'; the page shows {shown}", file=sys.stderr)
 
 
 def write_picture(scene: Scene, tick: int | None) -> None:
@@ -84,6 +103,8 @@ def words_given() -> argparse.Namespace:
     parser.add_argument("plan", metavar="PLAN", help="the plan")
     add_options(parser)
     pictures = parser.add_mutually_exclusive_group()
+    pictures.add_argument("--cert", metavar="CERT",
+                          help="a certificate beside the plan: the page shows its tree, and what tools/recheck says")
     pictures.add_argument("--png", metavar="TICK", type=number_between(0, MOST_TICK),
                           help="in place of the page a picture of this tick, as PNG")
     pictures.add_argument("--gif", action="store_true",
@@ -148,7 +169,7 @@ def page_of(names: Sequence[str], data: dict[str, Any]) -> str:
     compact = json.dumps(data, separators=(",", ":")).replace("<", "\\u003c")
     texts = {
         "TITLE": html.escape(f"{names[2]}: {len(data['agents'])} agents on {names[0]}"),
-        "STYLE": part("page.css"),
+        "STYLE": "\n".join(part(name) for name in STYLES),
         "DATA": compact,
         "SCRIPT": "\n".join(part(name) for name in SCRIPTS),
     }

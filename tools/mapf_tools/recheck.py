@@ -351,9 +351,12 @@ class Tree:
 
     def judge_parts(self) -> None:
         """Judges the parts of a certificate of version 3, and what follows them."""
-        problem = Problem(self.free, self.starts, self.goals, self.distances,
-                          functools.partial(steps_from, free=self.free))
-        Judge(self.lines, self.ranges, problem, refuse_if).judge(self.least)
+        Judge(self.lines, self.ranges, self.problem(), refuse_if).judge(self.least)
+
+    def problem(self) -> Problem:
+        """The agents on their grid."""
+        return Problem(self.free, self.starts, self.goals, self.distances,
+                       functools.partial(steps_from, free=self.free))
 
     def judge_item(self, node: Node) -> list[Node]:
         """Judges the next item with its blocks, and answers the nodes below it."""
@@ -371,8 +374,12 @@ class Tree:
             self.judge_entries(entries, node.blocks[agent], node.bars(agent), agent)
         if kind == "leaf":
             labels = [self.label(node.entries(agent), agent, start, 0) for agent, start in enumerate(self.starts)]
-            refuse_if(sum(labels) < self.least, f"C8 {line}")
+            self.judge_sum(sum(labels), line)
         return children
+
+    def judge_sum(self, total: Label, line: int) -> None:
+        """Rule 4, of the leaf in this line, given the sum of its start labels."""
+        refuse_if(total < self.least, f"C8 {line}")
 
     def take_blocks(self, count: int) -> list[tuple[int, list[Entry]]]:
         """The blocks of a line: of each its agent and its entries, which are line, cell, tick and label."""
@@ -425,7 +432,7 @@ AnyTree = TypeVar("AnyTree", bound=Tree)
 
 
 def judge_cert(file: io.BufferedIOBase, answer: Answer, grid: Grid, starts: list[Cell], goals: list[Cell],
-               judge_type: type[AnyTree]) -> AnyTree:
+               judge_type: Callable[..., AnyTree]) -> AnyTree:
     """Judges a certificate, of which the claim has to fit this answer, and answers what judged its tree."""
     lines = Lines(file, "C2 K", LONGEST_LINE)
     version = lines.title("mapf-cert", 3)
@@ -444,12 +451,18 @@ def judge_cert(file: io.BufferedIOBase, answer: Answer, grid: Grid, starts: list
 
 def verdict(files: list[int], agents: int, plan: str) -> str:
     """The line for the four files, which are open. The third has this name."""
-    (kind, number), tree = judged(files, agents, plan, Tree)
+    told, tree = judged(files, agents, plan, Tree)
+    return verdict_of(told, tree.least)
+
+
+def verdict_of(told: Answer, least: Label) -> str:
+    """The line for an answer beside a certificate that shows so much."""
+    kind, number = told
     if kind == "impossible":
         return kind
     if kind == "bound":
         return f"bound {number}"
-    return f"optimal {number}" if tree.least == number else f"within {tree.least} {number}"
+    return f"optimal {number}" if least == number else f"within {least} {number}"
 
 
 def judged(files: list[int], agents: int, plan: str, judge_type: type[AnyTree]) -> tuple[Answer, AnyTree]:

@@ -295,6 +295,10 @@ class Judge:
             leaf.begin_group(divisor)
             for use_line, use in weighted_uses:
                 self.refuse_line_if(not leaf.may_use_in_group(*use), "C10", use_line)
+        self.judge_bound(leaf, least, line)
+
+    def judge_bound(self, leaf: Leaf, least: Label, line: int) -> None:
+        """Rule 9, of the leaf in this line, which has to show so much."""
         self.refuse_line_if(leaf.bound() < least, "C8", line)
 
     def take_uses(self, shape: str, count: int) -> list[tuple[int, list[int]]]:

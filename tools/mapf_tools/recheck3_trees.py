@@ -133,15 +133,25 @@ class Leaf:
         """What a lemma counts."""
         return self.prices.unit * lemma.bound if lemma.prices is None else lemma.bound
 
-    def bound(self) -> Label:
-        """What the uses show for the agents of the tree."""
+    def labels(self) -> dict[int, Label]:
+        """What is counted for each agent outside the groups."""
         unit = self.prices.unit
-        labels = {agent: self.single.get(agent, unit * far) for agent, far in self.scope.distances.items()}
+        return {agent: self.single.get(agent, unit * far) for agent, far in self.scope.distances.items()}
+
+    def worths(self, labels: dict[int, Label]) -> list[Label]:
+        """What each group adds to these labels."""
         counts = [self.count(lemma) for group in self.groups for lemma, _ in group.uses]
         if INFINITE in labels.values() or INFINITE in counts:
+            return [INFINITE]
+        return [group.worth(lambda lemma: self.excess(lemma, labels)) for group in self.groups]
+
+    def bound(self) -> Label:
+        """What the uses show for the agents of the tree."""
+        labels = self.labels()
+        shown = sum(labels.values()) + sum(self.worths(labels))
+        if shown == INFINITE:
             return INFINITE
-        worth = sum(group.worth(lambda lemma: self.excess(lemma, labels)) for group in self.groups)
-        return rounded_up(max(0, sum(labels.values()) + worth - self.prices.total), unit)
+        return rounded_up(max(0, shown - self.prices.total), self.prices.unit)
 
     def excess(self, lemma: Lemma, labels: dict[int, Label]) -> Label:
         """By how much what a lemma counts exceeds what is counted for its agents otherwise."""

@@ -6,7 +6,7 @@ from collections.abc import Callable, Iterable
 from dataclasses import dataclass, field
 from pathlib import Path
 
-from .plans import FREE, Agent, Cell, Grid, shown, sum_of_costs
+from .plans import FREE, Agent, Cell, Grid, cut_waits, shown, sum_of_costs
 from .process import ToolError, called
 
 MOST_AGENTS = 200
@@ -278,9 +278,9 @@ def path_of(text: Text, number: int, agent: int, cells: Cells) -> list[Cell]:
 
 
 def plan_text(paths: list[list[Cell]]) -> str:
-    """The plan text of these paths, of which none ends with a wait."""
+    """The plan text of these paths. Waits at the end of a path aren't written, since a plan text has none."""
     lines = ["mapf-plan 2", f"agents {len(paths)}", f"cost {sum_of_costs(paths)}"]
-    for agent, path in enumerate(paths):
+    for agent, path in enumerate(map(cut_waits, paths)):
         spelled = {cell: "%d,%d" % cell for cell in set(path)}
         lines.append(f"path {agent} {len(path) - 1} " + " ".join(map(spelled.__getitem__, path)))
     return "\n".join([*lines, "end", ""])

@@ -16,7 +16,7 @@ from dataclasses import dataclass
 from pathlib import Path
 from typing import NoReturn
 
-from .answers import add_options, read_answer
+from .answers import add_options, exchanged, mirrored, read_answer
 from .evidence import CERT, FOUND, MAP, PLAN, SCEN, Answer, Evidence, Searches, answer_of
 from .plans import Agent, Cell, Fault, Grid, faults_of, sum_of_costs
 from .process import ToolError, clear_progress, program, run_tool, signals_held, version_of
@@ -150,7 +150,7 @@ def verify(mapf: str, given: argparse.Namespace, problem: Problem, paths: list[l
             evidence = at_end.enter_context(Evidence(mapf, given, searches))
         for name, text in problem.texts.items():
             evidence.write(name, text)
-        line, status = answer(evidence, problem.agents, paths, faults_of(problem.grid, problem.agents, paths))
+        line, status = answer(evidence, problem, paths, faults_of(problem.grid, problem.agents, paths))
         evidence.write_note(line)
         if given.keep:
             shutil.copytree(evidence.folder, given.keep, dirs_exist_ok=True)
@@ -192,7 +192,7 @@ def make_folder(folder: str) -> None:
         raise ToolError(f"--keep: {folder} isn't empty: name a new folder")
 
 
-def answer(evidence: Evidence, agents: list[Agent], paths: list[list[Cell]], faults: list[Fault]) -> tuple[str, int]:
+def answer(evidence: Evidence, problem: Problem, paths: list[list[Cell]], faults: list[Fault]) -> tuple[str, int]:
     """What is printed, and the status."""
     cost = sum_of_costs(paths)
     evidence.write(PLAN, plan_text(paths))
@@ -204,7 +204,7 @@ def answer(evidence: Evidence, agents: list[Agent], paths: list[list[Cell]], fau
                         "them is wrong, so please report it")
     if is_refused:
         evidence.show(PLAN, verdict, "the plan isn't valid, whatever the certificate")
-        return "\n".join(["not valid: " + faults[0].words, *also(faults[1:]), *advice(agents, paths)]), NOT_CHEAPEST
+        return "\n".join(["not valid: " + faults[0].words, *also(faults[1:]), *advice(problem, paths)]), NOT_CHEAPEST
     if verdict == f"optimal {cost}":
         evidence.show(PLAN, verdict, "the plan is valid, and no agent costs more than its least distance")
         return f"cheapest: {cost}", CHEAPEST
@@ -218,15 +218,35 @@ def also(faults: list[Fault]) -> list[str]:
     return lines + [f"and {more} more"] * (more > 0)
 
 
-def advice(agents: list[Agent], paths: list[list[Cell]]) -> list[str]:
-    """Where each agent begins elsewhere, what is likely to be mended."""
-    begins = [(path[0], task.start) for path, task in zip(paths, agents)]
-    if any(cell == start for cell, start in begins):
-        return []
-    if all((y, x) == start for (x, y), start in begins):
+def advice(problem: Problem, paths: list[list[Cell]]) -> list[str]:
+    """What is likely to be mended, where another way to read the plan mends each start, or all."""
+    starts = [agent.start for agent in problem.agents]
+    begins = [path[0] for path in paths]
+    turned, upward = list(map(exchanged, paths)), list(map(mirrored, paths))
+    if begins != starts and [path[0] for path in turned] == starts or is_valid(problem, turned):
         return ["with x and y exchanged each agent begins at its start: see whether the format is the right one, or "
                 "add --exchange-xy"]
+    if is_valid(problem, upward):
+        return ["with up and down exchanged the plan is valid: add --exchange-ud"]
+    if leaves_map(problem.grid, paths) and not leaves_map(problem.grid, upward):
+        return ["with up and down exchanged no agent leaves the map: see whether rows are counted from below, and add "
+                "--exchange-ud"]
+    if begins != starts and [(x - 1, y - 1) for x, y in begins] == starts:
+        return ["with 1 less in x and y each agent begins at its start: cells are counted from 0, and here from 1"]
+    if any(cell == start for cell, start in zip(begins, starts)):
+        return []
     return ["no agent begins at its start: see whether MAP and SCEN are those of the answer"]
+
+
+def is_valid(problem: Problem, paths: list[list[Cell]]) -> bool:
+    """Whether a plan is valid. Most that aren't have another start or end."""
+    ends = [Agent(path[0], path[-1]) for path in paths]
+    return ends == problem.agents and not faults_of(problem.grid, problem.agents, paths)
+
+
+def leaves_map(grid: Grid, paths: list[list[Cell]]) -> bool:
+    """Whether a cell of these paths is outside the map."""
+    return any(not (0 <= x < grid.width and 0 <= y < grid.height) for path in paths for x, y in path)
 
 
 def search(evidence: Evidence, cost: int, verdict: str) -> tuple[str, int]:

@@ -14,8 +14,8 @@ const speeds = [0.5, 1, 2, 4, 8, 16, 32, 64];
 // The time in ticks; the agents that are picked and pointed at; the fault that was asked for; the first leg that is
 // listed; whether the ground, and what is behind the agents, is to be drawn anew.
 const shows = {
-  time: 0, plays: false, speed: 4, paths: true, goals: true, picked: null, over: null, fault: null, firstLeg: 0,
-  newGround: true, newBehind: true,
+  time: 0, plays: false, speed: 4, paths: true, goals: true, labels: false, picked: null, over: null, fault: null,
+  firstLeg: 0, newGround: true, newBehind: true,
 };
 
 // Where the map is: the width of a cell, and the left upper corner of the map, in pixels of the page. `before` is where
@@ -36,7 +36,6 @@ function draw(at) {
   frame = 0;
   if (shows.plays) {
     goOn(Math.min((at - drawnAt) / 1000, 0.25));
-    frame = requestAnimationFrame(draw);
   }
   drawnAt = at;
   if (shows.newGround) {
@@ -49,9 +48,11 @@ function draw(at) {
   pen.drawImage(behind, 0, 0);
   toCells(pen);
   drawAgents();
+  drawMarks();
   drawFaults();
 }
 
+// Goes on in time. This asks for the next frame.
 function goOn(seconds) {
   const time = Math.min(shows.time + seconds * shows.speed, lastTick);
   setTime(time, false);
@@ -85,9 +86,8 @@ function drawGround() {
   pen.fillStyle = colour.free;
   pen.fillRect(0, 0, data.width, data.height);
   pen.fillStyle = colour.blocked;
-  const bits = atob(data.blocked);
   for (let cell = 0; cell < data.width * data.height; cell++) {
-    if (bits.charCodeAt(cell >> 3) & (128 >> (cell & 7))) {
+    if (freeCells[cell] === 0) {
       pen.fillRect(cell % data.width, Math.floor(cell / data.width), 1, 1);
     }
   }
@@ -104,9 +104,11 @@ function drawBehind() {
   toCells(pen);
   pen.imageSmoothingEnabled = view.scale < 1;
   pen.drawImage(ground, 0, 0);
+  drawLabels(pen);
   if (view.scale >= 10) {
     drawGrid(pen);
   }
+  drawLabelNumbers(pen);
   pen.lineJoin = pen.lineCap = "round";
   const picked = [shows.over, shows.picked].filter((agent) => agent !== null);
   for (const agent of agents) {
@@ -125,15 +127,20 @@ function drawBehind() {
   }
 }
 
+// The columns and rows that are seen.
+function sight() {
+  const { scale, left, top, width, height } = view;
+  return {
+    fromX: Math.max(0, Math.floor(-left / scale)), toX: Math.min(data.width, Math.ceil((width - left) / scale)),
+    fromY: Math.max(0, Math.floor(-top / scale)), toY: Math.min(data.height, Math.ceil((height - top) / scale)),
+  };
+}
+
 // Lines between the cells that are seen.
 function drawGrid(pen) {
-  const { scale, left, top, width, height } = view;
-  const fromX = Math.max(0, Math.floor(-left / scale));
-  const toX = Math.min(data.width, Math.ceil((width - left) / scale));
-  const fromY = Math.max(0, Math.floor(-top / scale));
-  const toY = Math.min(data.height, Math.ceil((height - top) / scale));
+  const { fromX, toX, fromY, toY } = sight();
   pen.strokeStyle = colour.grid;
-  pen.lineWidth = 1 / scale;
+  pen.lineWidth = 1 / view.scale;
   pen.beginPath();
   for (let x = fromX; x <= toX; x++) {
     pen.moveTo(x, fromY);
@@ -244,16 +251,21 @@ function drawNumber(agent, x, y) {
   if (height < 6.5) {
     return;
   }
-  const [red, green, blue] = [1, 3, 5].map((at) => parseInt(agent.colour.slice(at, at + 2), 16));
   const ratio = canvas.width / view.width;
   pen.save();
   pen.setTransform(ratio, 0, 0, ratio, 0, 0);
   pen.font = `600 ${height}px system-ui, sans-serif`;
   pen.textAlign = "center";
   pen.textBaseline = "middle";
-  pen.fillStyle = 0.3 * red + 0.59 * green + 0.11 * blue > 135 ? "#000000" : "#ffffff";
+  pen.fillStyle = inkOn(agent.colour);
   pen.fillText(text, view.left + x * view.scale, view.top + (y + 0.02) * view.scale);
   pen.restore();
+}
+
+// Black or white, whichever can be read on a colour.
+function inkOn(shade) {
+  const [red, green, blue] = [1, 3, 5].map((at) => parseInt(shade.slice(at, at + 2), 16));
+  return 0.3 * red + 0.59 * green + 0.11 * blue > 135 ? "#000000" : "#ffffff";
 }
 
 // Faults at the tick that is shown: a cross in a ring.

@@ -24,16 +24,24 @@ function tellTick() {
   element("tick").setAttribute("aria-valuetext", `tick ${tick} of ${lastTick}`);
   element("now").textContent = `tick ${tick} of ${lastTick}`;
   for (const id of ["first", "back"]) {
-    element(id).disabled = tick === 0;
+    setUseful(element(id), tick > 0);
   }
   for (const id of ["forth", "last"]) {
-    element(id).disabled = tick === lastTick;
+    setUseful(element(id), tick < lastTick);
   }
   markFaults(tick);
+  if (shows.labels) {
+    tellLabels();
+  }
   if (shows.picked) {
     markLeg(shows.picked, tick);
     tellFacts(shows.picked);
   }
+}
+
+// Tells whether a button does anything. One that doesn't keeps the focus, since keys come from where that is.
+function setUseful(button, isUseful) {
+  button.setAttribute("aria-disabled", String(!isUseful));
 }
 
 // Marks the faults of the tick, and brings one of them into sight: the one that was asked for, else the first.
@@ -77,6 +85,11 @@ function mark(list, items) {
 function reveal(list, item) {
   const [box, its] = [list.getBoundingClientRect(), item.getBoundingClientRect()];
   list.scrollTop += Math.min(its.top - box.top, 0) + Math.max(its.bottom - box.bottom, 0);
+}
+
+// Brings the map into sight, where the page is longer than its window.
+function revealMap() {
+  element("view").scrollIntoView({ block: "nearest" });
 }
 
 function play(plays) {
@@ -148,6 +161,7 @@ function listedLeg(leg, number) {
   const item = listed(`${ticks}: ${legText(leg)}`, () => {
     play(false);
     setTime(leg.from);
+    revealMap();
   });
   item.dataset.leg = number;
   return item;
@@ -179,6 +193,7 @@ function showFault(fault) {
   setTime(fault.tick);
   pick(agents[fault.agents[0]]);
   showPlace(middleOf(fault));
+  revealMap();
   element("said").textContent = fault.words;
 }
 
@@ -317,6 +332,8 @@ const keys = {
   n: () => pick(agents[shows.picked ? (shows.picked.number + 1) % agents.length : 0]),
   b: () => pick(agents[((shows.picked?.number ?? 0) + agents.length - 1) % agents.length]),
   f: nextFault,
+  l: () => showLabels(!shows.labels),
+  "/": seekByKey,
   p: () => show("paths", !shows.paths),
   g: () => show("goals", !shows.goals),
   "+": () => zoom(1.4),
@@ -330,13 +347,21 @@ const keys = {
   Escape: () => {
     pick(null);
     point(null);
+    clearSought();
+    choose(null);
   },
 };
+
+function seekByKey() {
+  if (certificate) {
+    element("sought").focus();
+  }
+}
 
 // What a control does with a key by itself stays its own.
 function isOwnKey(target, key) {
   const type = target.tagName === "INPUT" ? target.type : target.tagName;
-  if (type === "SELECT") {
+  if (type === "SELECT" || type === "text") {
     return key !== "Escape";
   }
   if (type === "range") {
@@ -361,8 +386,8 @@ function tellPlan() {
   element("name").textContent = data.plan;
   element("problem").textContent = `${data.map}, ${data.width} × ${data.height}; ${data.scenario}, ${count}`;
   const verdict = document.createElement("li");
-  verdict.textContent = faults.length === 0 ? "✓ valid" : `✗ not valid, ${counted()}`;
-  verdict.className = faults.length === 0 ? "good" : "bad";
+  verdict.textContent = faults.length > 0 ? `✗ not valid, ${counted()}` : data.noFault ?? "✓ valid";
+  verdict.className = faults.length > 0 ? "bad" : data.noFault ? "" : "good";
   element("sums").append(numbered("sum of costs", data.cost), numbered("last tick", lastTick), verdict);
   const size = `${data.width} columns and ${data.height} rows`;
   canvas.setAttribute("aria-label", `${count} on a map of ${size}, at the tick that is shown`);
@@ -415,6 +440,7 @@ function listen() {
   const onClick = {
     first: () => step(-lastTick), back: () => step(-1), forth: () => step(1), last: () => step(lastTick),
     play: () => play(!shows.plays), nearer: () => zoom(1.4), further: () => zoom(1 / 1.4), fit,
+    "found-before": () => stepFound(-1), "found-next": () => stepFound(1),
   };
   for (const [id, act] of Object.entries(onClick)) {
     element(id).addEventListener("click", act);
@@ -425,6 +451,17 @@ function listen() {
   });
   element("speed").addEventListener("change", (event) => setSpeed(Number(event.target.value)));
   element("agent").addEventListener("change", (event) => pick(agents[event.target.value] ?? null));
+  element("labels").addEventListener("change", (event) => showLabels(event.target.checked));
+  element("source").addEventListener("change", (event) => {
+    heat.chosenSource = Number(event.target.value);
+    tellLabels();
+  });
+  element("sought").addEventListener("input", takeSought);
+  element("sought").addEventListener("keydown", (event) => {
+    if (event.key === "Enter") {
+      stepFound(event.shiftKey ? -1 : 1);
+    }
+  });
   for (const what of ["paths", "goals"]) {
     element(what).addEventListener("change", (event) => show(what, event.target.checked));
   }
@@ -439,16 +476,21 @@ function listen() {
     zoom(Math.exp(-event.deltaY * 0.0015), ...placeOf(event));
   }, { passive: false });
   document.addEventListener("keydown", typed);
-  dark.addEventListener("change", () => redraw("ground"));
+  dark.addEventListener("change", () => {
+    tellLegend();
+    redraw("ground");
+  });
   addEventListener("hashchange", followAddress);
   new ResizeObserver(resize).observe(canvas);
 }
 
 tellPlan();
 fillLists();
+fillCertificate();
 setSpeed(shows.speed);
 listen();
 resize();
 setTime(0);
 pick(null);
+openTree();
 followAddress();

@@ -6,6 +6,14 @@ const data = JSON.parse(document.getElementById("data").textContent);
 const agents = data.agents.map((told, number) => ({ ...told, number, cells: cellsOf(told.path) }));
 const lastTick = Math.max(0, ...agents.map((agent) => agent.cost));
 
+// By the numbers of the cells, row after row, 1 where it is free.
+const freeCells = freeOf(atob(data.blocked));
+
+function freeOf(bits) {
+  const isFree = (_, cell) => (bits.charCodeAt(cell >> 3) & (128 >> (cell & 7)) ? 0 : 1);
+  return Uint8Array.from({ length: data.width * data.height }, isFree);
+}
+
 // The faults are in the order of their ticks.
 const faults = data.faults.map((told, number) => ({ ...told, number }));
 const faultsByTick = new Map();
