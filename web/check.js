@@ -1,0 +1,307 @@
+"use strict";
+
+// The form, the run of the worker, and what it tells.
+
+const element = (id) => document.getElementById(id);
+const parts = JSON.parse(element("parts").textContent);
+const workerAddress = URL.createObjectURL(new Blob([element("worker").textContent], { type: "text/javascript" }));
+
+// The run at work: its worker, what it was asked, when it began, and what tells its seconds. Null where none is.
+let run = null;
+
+// What the last run was asked.
+let judged = {};
+
+// What the first lines of the plan text and the certificate that are chosen tell of a mistake.
+let doubts = {};
+
+// Choosing.
+
+// Takes files that came together. Where several may be one text, somebody has to choose one.
+async function take(files) {
+  const found = await sorted(files.slice(0, mostFiles));
+  const there = texts.filter((text) => found[text].length > 0);
+  const none = there.length > 0 ? "" : "None of these files is one of the four texts. ";
+  const most = `Only the first ${mostFiles.toLocaleString("en")} files were looked at.`;
+  complain(none + (files.length > mostFiles ? most : ""));
+  for (const text of there) {
+    put(element(text), found[text].length === 1 ? found[text][0] : null);
+    offer(text, found[text]);
+  }
+  if (there.length > 0) {
+    await change();
+  }
+}
+
+function offer(text, files) {
+  const list = element(`${text}-found`);
+  list.hidden = files.length === 1;
+  const options = files.map((file, number) => new Option(pathOf(file), number));
+  list.replaceChildren(new Option(`choose one of ${files.length}`, ""), ...options);
+  list.onchange = () => {
+    put(element(text), files[list.value] ?? null);
+    change();
+  };
+}
+
+// A file that is chosen for a text, or dropped on its field, is that text.
+function takeAs(text, file) {
+  put(element(text), file);
+  return chosen(text);
+}
+
+function chosen(text) {
+  element(`${text}-found`).hidden = true;
+  complain("");
+  return change();
+}
+
+// After a change of a text: what was judged before isn't what is chosen now.
+async function change() {
+  outdate();
+  const [plan, cert] = await Promise.all(["plan", "cert"].map((text) => headOf(element(text).files[0])));
+  doubts = { plan: doubtOf("plan", plan, cert), cert: doubtOf("cert", cert, plan) };
+  element("doubts").textContent = [...new Set(Object.values(doubts))].map(sentenceOf).join(" ");
+  noteAgents(plan.match(/^mapf-plan [12]\r?\nagents ([0-9]+)\r?\n/)?.[1] ?? "");
+}
+
+// What the plan text says is taken for K, until somebody gives another number.
+function noteAgents(told) {
+  const k = element("k");
+  if (k.value === "" || k.value === k.dataset.told) {
+    k.value = told;
+  }
+  k.dataset.told = told;
+  markAgents();
+}
+
+// Marks another number than the plan text's.
+function markAgents() {
+  const [given, told] = [element("k").value.trim(), element("k").dataset.told];
+  const isOther = Boolean(told && given) && Number(given) !== Number(told);
+  element("k-note").textContent = told ? `The plan text says ${told}${isOther ? `, not ${given}` : ""}.` : "";
+  element("k-note").classList.toggle("bad", isOther);
+}
+
+async function takeExample() {
+  element("k").value = "";
+  await take(Object.entries(parts.example).map(([name, text]) => new File([text], name)));
+  start();
+}
+
+// Several files, and those of a folder, are told apart by what is in them, wherever they are dropped.
+function drop(event) {
+  event.preventDefault();
+  document.body.classList.remove("over");
+  const isFolder = hasFolder(event.dataTransfer);
+  const text = texts.find((text) => text === event.target.id);
+  complain(isFolder ? "Reading the folder" : "", !isFolder);
+  droppedFiles(event.dataTransfer)
+    .then((files) => (text && files.length === 1 && !isFolder ? takeAs(text, files[0]) : take(files)))
+    .catch(({ message }) => complain(`What was dropped can't be read: ${message}`));
+}
+
+function complain(words, isBad = true) {
+  element("complaint").textContent = words;
+  element("complaint").className = isBad ? "bad" : "";
+}
+
+function hover(event) {
+  event.preventDefault();
+  document.body.classList.toggle("over", event.type === "dragover");
+}
+
+// Running.
+
+function start() {
+  const missing = [...texts, "k"].map(element).filter((field) => field.value.trim() === "");
+  const labels = missing.map((field) => field.labels[0].textContent.toLowerCase());
+  complain(missing.length > 0 ? `Still missing: ${labels.join(", ")}.` : "");
+  if (missing.length > 0) {
+    missing[0].focus();
+    return;
+  }
+  end();
+  draw(null);
+  // The place of an earlier verdict is kept, so that nothing moves below the pointer.
+  element("verdict").style.minHeight = `${element("verdict").offsetHeight}px`;
+  element("verdict").replaceChildren();
+  const files = Object.fromEntries(texts.map((text) => [text, element(text).files[0]]));
+  const asked = { ...files, k: element("k").value.trim() };
+  judged = asked;
+  run = { asked, began: performance.now(), worker: new Worker(workerAddress) };
+  run.worker.onmessage = ({ data }) => tell[data.kind](data);
+  run.worker.onerror = ({ message }) => tell.fault({ words: message || "The checker ended without an answer." });
+  run.clock = setInterval(tellAmount, 1000);
+  run.worker.postMessage(run.asked);
+  showWork("Reading the texts");
+}
+
+// Ends the run, if one is at work, and answers it.
+function end() {
+  const ended = run;
+  ended?.worker.terminate();
+  clearInterval(ended?.clock);
+  run = null;
+  element("work").hidden = true;
+  if (document.activeElement === element("stop")) {
+    element("check").focus();
+  }
+  element("stop").disabled = true;
+  return ended;
+}
+
+function stop() {
+  if (end()) {
+    showVerdict("stopped", "–", "Stopped", ["Nothing is proved."], []);
+  }
+}
+
+// Ends a run of what isn't chosen any more, or marks its verdict.
+function outdate() {
+  const verdict = element("verdict");
+  draw(null);
+  if (end()) {
+    showVerdict("stopped", "–", "Stopped", ["The texts were changed. Press Check.", "Nothing is proved."], []);
+  } else if (verdict.hasChildNodes() && !verdict.classList.contains("old")) {
+    verdict.classList.add("old");
+    verdict.querySelector("h2 span").textContent = "–";
+    verdict.prepend(made("p", "This verdict is of the texts chosen before. Press Check."));
+  }
+}
+
+// What the worker tells.
+
+const tell = {
+  prepares: () => showWork("Judging the plan, and finding the distances of each agent"),
+  reads: ({ done, size }) => {
+    showWork("Judging the certificate");
+    Object.assign(run, { done, size });
+    element("bar").value = done / Math.max(size, 1);
+    tellAmount();
+  },
+  fault: ({ words }) => {
+    end();
+    showVerdict("stopped", "–", "No verdict", [words, "This says nothing of the texts."], []);
+  },
+  verdict: ({ line, seen }) => showAnswer(line, seen, end()),
+};
+
+function showAnswer(line, seen, { asked, began }) {
+  const seconds = ((performance.now() - began) / 1000).toFixed(1);
+  if (line === null) {
+    showVerdict("stopped", "–", "No verdict", ["The number of agents isn't a number from 1 to 200."], []);
+    return;
+  }
+  const meaning = meaningOf(line, Number(asked.k));
+  const code = line.split(" ")[1];
+  const doubt = { C1: doubts.plan, C2: doubts.cert }[code];
+  const sentences = meaning
+    ? [meaning, "What this checker accepts is true: this is proved in Coq."]
+    : refusalOf(code, seen.version, doubt ? [doubt] : seen.hints);
+  const facts = [
+    ["The checker's line", line], ["Map", named(asked.map)], ["Scenario", named(asked.scen)], ["Agents", asked.k],
+    ["Plan text", named(asked.plan)], ["Certificate", named(asked.cert)], ["Time", `${seconds} seconds`],
+  ];
+  draw(seen.drawing);
+  showVerdict(meaning ? "good" : "bad", meaning ? "✓" : "✗", meaning ? line : headlineOf(code), sentences, facts);
+}
+
+function named(file) {
+  return `${file.name}, ${file.size.toLocaleString("en")} bytes`;
+}
+
+// Showing.
+
+function sentenceOf(words) {
+  return words && `${words[0].toUpperCase()}${words.slice(1)}.`;
+}
+
+function made(tag, text, kind = "") {
+  const item = document.createElement(tag);
+  item.className = kind;
+  item.textContent = text;
+  return item;
+}
+
+function showVerdict(kind, sign, words, sentences, facts) {
+  const title = made("h2", "", kind);
+  const mark = made("span", sign);
+  mark.setAttribute("aria-hidden", "true");
+  title.append(mark, made("span", words));
+  const list = made("dl", "");
+  list.append(...facts.flatMap(([name, value]) => [made("dt", name), made("dd", value)]));
+  const verdict = element("verdict");
+  verdict.className = verdict.style.minHeight = "";
+  verdict.replaceChildren(title, ...sentences.map((sentence) => made("p", sentence)), list);
+  verdict.scrollIntoView({ block: "nearest" });
+}
+
+// A step's name is told once, and how far it is, without being read aloud.
+function showWork(step) {
+  element("work").hidden = false;
+  element("stop").disabled = false;
+  if (element("step").textContent !== step) {
+    element("step").textContent = step;
+    element("bar").removeAttribute("value");
+    tellAmount();
+  }
+}
+
+function tellAmount() {
+  const seconds = `${Math.round((performance.now() - run.began) / 1000)} s`;
+  const megabytes = (bytes) => (bytes / 1e6).toFixed(1);
+  element("amount").textContent = run.size
+    ? `${megabytes(run.done)} of ${megabytes(run.size)} MB, ${seconds}`
+    : seconds;
+}
+
+// The page of tools/draw, in a frame.
+function draw(data) {
+  if (data === null) {
+    element("side").replaceChildren(made("p", "Once a plan is judged, it is drawn here."));
+    return;
+  }
+  const agents = data.agents.map((agent, number) => ({ colour: parts.colours[number], ...agent }));
+  const values = { TITLE: "", DATA: JSON.stringify({ ...data, agents }).replaceAll("<", "\\u003c") };
+  const frame = document.createElement("iframe");
+  frame.title = "The plan, drawn";
+  frame.srcdoc = parts.drawing.replace(/\[(TITLE|DATA)\]/g, (_, name) => values[name]);
+  frame.addEventListener("load", () => listenToDrops(frame.contentWindow));
+  element("side").replaceChildren(frame);
+}
+
+function listen() {
+  element("form").addEventListener("submit", (event) => {
+    event.preventDefault();
+    start();
+  });
+  element("stop").addEventListener("click", stop);
+  element("example").addEventListener("click", takeExample);
+  for (const id of ["files", "folder"]) {
+    element(id).addEventListener("change", ({ target }) => {
+      complain(id === "folder" ? "Reading the folder" : "", false);
+      take([...target.files]);
+      target.value = "";
+    });
+  }
+  for (const text of texts) {
+    element(text).addEventListener("change", () => chosen(text));
+    // A browser tells so too of a file that is chosen again, which may have been changed.
+    element(text).addEventListener("cancel", ({ target }) => target.files[0] === judged[text] || change());
+  }
+  element("k").addEventListener("input", () => {
+    outdate();
+    markAgents();
+  });
+  draw(null);
+  listenToDrops(window);
+}
+
+function listenToDrops(place) {
+  place.addEventListener("dragover", hover);
+  place.addEventListener("dragleave", hover);
+  place.addEventListener("drop", drop);
+}
+
+listen();
