@@ -466,6 +466,16 @@ void write_crossing(const std::string& name) {
   writer.end();
 }
 
+void write_pair(const std::string& name) {
+  auto out = opened(name);
+  const Sizes sizes{3, 3, 2};
+  const Two two{0, 1};
+  LemmaWriter writer(out, sizes, Claim::cost(11), 0, 1);
+  const Number lemma = writer.lemma(two);
+  writer.leaf({{}, {Group{1, {Use{lemma, 1}}}}});
+  writer.end();
+}
+
 void write_trees(const std::string& name) {
   auto out = opened(name);
   const Entry barred{{0, 0}, 0, Label::infinite()};
@@ -596,6 +606,8 @@ int main(int count, char** words) {
     }
   } else if (trial == "crossing") {
     write_crossing(given.at(1));
+  } else if (trial == "pair") {
+    write_pair(given.at(1));
   } else if (trial == "trees") {
     write_trees(given.at(1));
   } else if (trial == "lemmas") {

@@ -1,8 +1,8 @@
 // Labels of single agents, for both versions.
 //
 // Each call takes the distances to the agent's goal, which also say where the goal is and which cells are free, and the
-// constraints on this agent alone: those from the root to a node of version 2, or those of a lemma of version 3. It
-// answers entries, and leaves out those that would not exceed the default, as the rules ask.
+// constraints on this agent alone, whichever agent they name: those from the root to a node of version 2, or those of a
+// lemma of version 3. It answers entries, and leaves out those that would not exceed the default, as the rules ask.
 
 #ifndef MAPF_CERT_LABELS_HPP
 #define MAPF_CERT_LABELS_HPP

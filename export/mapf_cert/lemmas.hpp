@@ -45,10 +45,10 @@ struct PriceList {
 /// A lemma of one agent. Its bound is the label of its start at tick 0, plus the price of that cell at tick 0.
 struct One {
   Agent agent = 0;
-  std::vector<Constraint> constraints;
-  std::vector<Entry> entries;
+  std::vector<Constraint> constraints = {};
+  std::vector<Entry> entries = {};
   /// The number of a price list, or none.
-  std::optional<Number> list;
+  std::optional<Number> list = {};
 };
 
 /// A label of two agents at a tick. An agent without a cell has arrived for good; one of the two has a cell.
@@ -63,11 +63,11 @@ struct JointEntry {
 struct Two {
   Agent first = 0;
   Agent second = 0;
-  std::vector<Constraint> constraints;
-  std::vector<Entry> first_entries;
-  std::vector<Entry> second_entries;
-  std::vector<JointEntry> joint_entries;
-  std::optional<Number> list;
+  std::vector<Constraint> constraints = {};
+  std::vector<Entry> first_entries = {};
+  std::vector<Entry> second_entries = {};
+  std::vector<JointEntry> joint_entries = {};
+  std::optional<Number> list = {};
 };
 
 /// A lemma of two agents that never both arrive: they don't leave these joint cells, at least one pair.
@@ -81,7 +81,7 @@ struct Never {
 /// The tree that shows it follows: nodes come before the next lemma.
 struct Cases {
   std::vector<Agent> agents;
-  std::vector<Constraint> constraints;
+  std::vector<Constraint> constraints = {};
   Label bound = Label::infinite();
 };
 
@@ -95,14 +95,14 @@ struct Use {
 /// agent the weights of its lemmas are at most the divisor, 1 to 1,000.
 struct Group {
   Number divisor = 1;
-  std::vector<Use> uses;
+  std::vector<Use> uses = {};
 };
 
 /// A leaf of version 3: the numbers of lemmas of single agents, groups (at most K of each), and a price list or none.
 struct Leaf {
-  std::vector<Number> uses;
-  std::vector<Group> groups;
-  std::optional<Number> list;
+  std::vector<Number> uses = {};
+  std::vector<Group> groups = {};
+  std::optional<Number> list = {};
 };
 
 /// Writes a certificate of version 3 to a stream: its price lists, then its lemmas, then a tree in pre-order. How many
@@ -250,7 +250,8 @@ class LemmaWriter : private detail::Writer {
     begin_tree_if_due();
   }
 
-  /// Writes the last line. Throws std::logic_error while lists, lemmas or nodes are due.
+  /// Writes the last line, without which the text is refused. Throws std::logic_error while lists, lemmas or nodes are
+  /// due.
   void end() {
     require_due(written_lists_ == lists_ && written_lemmas_ == lemmas_, "Not all lists and lemmas were written.");
     write_end();

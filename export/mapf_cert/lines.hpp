@@ -66,6 +66,11 @@ class Lines {
     out.write(text_.data(), static_cast<std::streamsize>(text_.size()));
     if (!out) throw std::runtime_error("The stream took no more.");
   }
+  void write_last_to(std::ostream& out) {
+    write_to(out);
+    out.flush();
+    if (!out) throw std::runtime_error("The stream took no more.");
+  }
 
  private:
   void put(const char* word) { text_ += word; }
@@ -189,9 +194,7 @@ class Writer {
     require_due(open_ == 0, "The tree isn't complete.");
     Lines lines;
     lines.add("end");
-    lines.write_to(out_);
-    out_.flush();
-    if (!out_) throw std::runtime_error("The stream took no more.");
+    lines.write_last_to(out_);
     open_ = -1;
   }
 

@@ -40,13 +40,14 @@ inline Number write_plan(std::ostream& out, const Sizes& sizes, std::vector<Path
     lines.end_line();
   }
   lines.add("end");
-  lines.write_to(out);
+  lines.write_last_to(out);
   return sum;
 }
 
-/// Writes a plan text without a plan, which stands beside `claim bound`: the search ended after so many splits (0 to
-/// 100,000), or without a number because a conflict at tick 1,000,000 or later would have to be split. No valid plan
-/// costs less than the bound. Without a bound it is of version 1, and no certificate is accepted beside it.
+/// Writes a plan text without a plan, which stands beside `claim bound`: the search ended after so many splits, or
+/// without a number because a conflict at tick 1,000,000 or later would have to be split. The number is 0 to 100,000.
+/// Nothing is compared with it, so give 100,000 if there were more. No valid plan costs less than the bound. Without a
+/// bound the text is of version 1, and no certificate is accepted beside it.
 inline void write_limit(std::ostream& out, const Sizes& sizes, std::optional<Number> splits,
                         std::optional<Number> bound) {
   const detail::Ranges ranges(sizes);
@@ -63,7 +64,7 @@ inline void write_limit(std::ostream& out, const Sizes& sizes, std::optional<Num
   }
   lines.end_line();
   lines.add("end");
-  lines.write_to(out);
+  lines.write_last_to(out);
 }
 
 /// Writes a plan text that says that no plan is valid, in version 2 or 1.
@@ -75,7 +76,7 @@ inline void write_impossible(std::ostream& out, const Sizes& sizes, int version 
   lines.add("agents", sizes.agents);
   lines.add("impossible");
   lines.add("end");
-  lines.write_to(out);
+  lines.write_last_to(out);
 }
 
 }  // namespace mapf_cert

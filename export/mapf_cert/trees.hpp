@@ -20,7 +20,7 @@ namespace mapf_cert {
 /// them. A block without entries can't be spelled. It is left out, so that the labels from above hold on.
 struct Block {
   Agent agent = 0;
-  std::vector<Entry> entries;
+  std::vector<Entry> entries = {};
 };
 
 /// Writes a certificate of version 2 to a stream, node by node in pre-order: after a split its left child with all that
@@ -54,7 +54,7 @@ class TreeWriter : private detail::Writer {
   }
   void clash(const Clash& clash) { write_clash(clash); }
 
-  /// Writes the last line. Throws std::logic_error while nodes are due.
+  /// Writes the last line, without which the text is refused. Throws std::logic_error while nodes are due.
   void end() { write_end(); }
 
  private:
@@ -80,7 +80,7 @@ class TreeWriter : private detail::Writer {
 /// clash, with the blocks of a leaf or of a split.
 struct Node {
   std::variant<std::monostate, Split, Clash> kind;
-  std::vector<Block> blocks;
+  std::vector<Block> blocks = {};
   std::size_t left = 0;
   std::size_t right = 0;
 };

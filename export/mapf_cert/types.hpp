@@ -49,7 +49,7 @@ class Label {
   }
   static constexpr Label infinite() { return Label(); }
   constexpr bool is_infinite() const { return number_ < 0; }
-  /// The number of a label that isn't infinite.
+  /// The number of a label that isn't infinite. Of one that is, -1.
   constexpr Number number() const { return number_; }
 
   friend constexpr bool operator==(Label one, Label other) { return one.number_ == other.number_; }
@@ -125,8 +125,8 @@ struct Constraint {
   enum class Kind { not_at, not_move, clear, most, least };
   Kind kind = Kind::not_at;
   Agent agent = 0;
-  Cell cell;
-  Cell to;
+  Cell cell = {};
+  Cell to = {};
   Number number = 0;
 
   /// It isn't in the cell at the tick, 0 to 999,999.
