@@ -282,11 +282,11 @@ BENT_LEAVES = {
         "self.single.get(agent, unit * far)", "max(self.single.get(agent, 0), unit * far)"),
     "takes infinite counts for none": (
         "if INFINITE in labels.values() or INFINITE in counts", "if INFINITE in labels.values()"),
-    "takes no total off": ("sum(labels.values()) + worth - self.prices.total)", "sum(labels.values()) + worth)"),
-    "lets a total go below 0": (
-        "rounded_up(max(0, sum(labels.values()) + worth - self.prices.total), unit)",
-        "rounded_up(sum(labels.values()) + worth - self.prices.total, unit)"),
-    "rounds the bound down": ("- self.prices.total), unit)", "- self.prices.total) // unit, 1)"),
+    "takes no total off": ("max(0, shown - self.prices.total)", "shown"),
+    "lets a total go below 0": ("max(0, shown - self.prices.total)", "shown - self.prices.total"),
+    "rounds the bound down": (
+        "rounded_up(max(0, shown - self.prices.total), self.prices.unit)",
+        "max(0, shown - self.prices.total) // self.prices.unit"),
     "lets a use count less than nothing": (
         "return max(0, self.count(lemma) - sum(", "return (self.count(lemma) - sum("),
     "counts lemmas in place of what they exceed": (

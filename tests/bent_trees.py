@@ -283,7 +283,8 @@ BLOCKS = {
 
 NEAREST = "next((node.blocks[agent] for node in self.way_up() if agent in node.blocks), {})"
 SET_BLOCK = "            node.blocks[agent] = {(cell, tick): label for _, cell, tick, label in entries}\n"
-WEAK = "sum(labels) < self.least"
+WEAK = "total < self.least"
+SUM = "self.judge_sum(sum(labels), line)"
 START_LABEL = "self.label(node.entries(agent), agent, start, 0)"
 LEAST = "numbers[0] if numbers else INFINITE, grid"
 CLASH = "one == other or self.goals[one] != self.goals[other]"
@@ -299,6 +300,16 @@ def of_start_label(others):
 def of_own_entries(condition):
     entries = "node.entries(agent).items()"
     return of_start_label(f"[label for (cell, tick), label in {entries} if {condition}]")
+
+
+def of_sum(counted):
+    """The edit after which this is judged in place of the sum of a leaf's start labels."""
+    return SUM, f"self.judge_sum({counted}, line)"
+
+
+def of_leaves(condition):
+    """The edit after which leaves of which this holds are judged alone."""
+    return SUM, f"if {condition}:\n                {SUM}"
 
 
 ABOVE = "self.here.above.entries(agent) if self.here.above else {}"
@@ -328,24 +339,24 @@ LEAVES = {
     "takes entries of other agents for labels of starts": of_start_label(
         "[node.entries(other).get((start, 0), 0) for other in range(len(self.goals))]"),
     "takes any sum at a leaf": [(WEAK, "False")],
-    "takes a sum that is one less": [(WEAK, "sum(labels) + 1 < self.least")],
-    "takes the claimed sum alone": [(WEAK, "sum(labels) != self.least")],
-    "takes sums alone that are more than is claimed": [(WEAK, "sum(labels) <= self.least")],
+    "takes a sum that is one less": [(WEAK, "total + 1 < self.least")],
+    "takes the claimed sum alone": [(WEAK, "total != self.least")],
+    "takes sums alone that are more than is claimed": [(WEAK, "total <= self.least")],
     "takes any sum for impossible": [(LEAST, "numbers[0] if numbers else 0, grid")],
     "takes the greatest label for infinite": [(LEAST, "numbers[0] if numbers else 9_999_999, grid")],
     "takes inf at any state": of_own_entries("label == INFINITE"),
     "takes infinite labels for impossible alone": [
-        (WEAK, "sum(label for label in labels if label < INFINITE or self.least == INFINITE) < self.least")],
+        of_sum("sum(label for label in labels if label < INFINITE or self.least == INFINITE)")],
     "takes infinite distances for 0": [
         (f"block.get((cell, tick), {DISTANCE})", "block.get((cell, tick), self.distances[agent].get(cell, 0))")],
     "takes the label of a start at any tick": of_own_entries("cell == start"),
     "takes the label of any cell at tick 0": of_own_entries("tick == 0"),
     "adds up the labels of blocks alone": [(START_LABEL, "node.entries(agent).get((start, 0), 0)")],
-    "adds up the labels of two agents alone": [(WEAK, "sum(labels[:2]) < self.least")],
-    "judges leaves without blocks alone": [(WEAK, f"not blocks and {WEAK}")],
-    "judges leaves with blocks alone": [(WEAK, f"blocks and {WEAK}")],
-    "judges left leaves alone": [SIDE, BOTH_SIDES, (WEAK, f'node.side != "right" and {WEAK}')],
-    "judges right leaves alone": [SIDE, BOTH_SIDES, (WEAK, f'node.side != "left" and {WEAK}')],
+    "adds up the labels of two agents alone": [of_sum("sum(labels[:2])")],
+    "judges leaves without blocks alone": [of_leaves("not blocks")],
+    "judges leaves with blocks alone": [of_leaves("blocks")],
+    "judges left leaves alone": [SIDE, BOTH_SIDES, of_leaves('node.side != "right"')],
+    "judges right leaves alone": [SIDE, BOTH_SIDES, of_leaves('node.side != "left"')],
     "takes distances as if no cell were blocked": [("    return distances\n", f"    return {MANHATTAN}\n")],
     "takes distances of some way": [("cell = queue.popleft()", "cell = queue.pop()")],
     "takes any clash": [(CLASH, "one == other")],

@@ -42,6 +42,20 @@ MAPS = {
         @@@.@@.@@
         .........
         @.@@@.@@@""",
+    "rooms": """
+        ...@...
+        ...@...
+        .......
+        ...@...
+        @@.@@.@
+        ...@...
+        .......""",
+    "pillars": """
+        .....
+        .@.@.
+        .@...
+        .@.@.
+        .....""",
 }
 
 # Drawn problems: a map, the number of agents, the seed of starts and goals, and the limit.
@@ -51,15 +65,17 @@ DRAWN = [("open", 8, 2, AMPLE), ("open", 8, 2, 1), ("open", 10, 2, AMPLE), ("ope
          ("maze", 5, 1, AMPLE), ("maze", 5, 1, 5), ("maze", 6, 2, AMPLE), ("maze", 6, 3, AMPLE), ("maze", 6, 3, 1),
          ("corridors", 3, 1, AMPLE), ("corridors", 3, 1, 2), ("corridors", 4, 2, AMPLE), ("corridors", 5, 1, AMPLE)]
 
-# More agents, of which the second search searches groups by themselves, or packs what they cost more together.
+# More agents, of which the second search searches groups by themselves, or packs what they cost more together. Each takes
+# a preview some seconds at most.
 CROWDED = [("open", 13, 1, AMPLE), ("open", 15, 1, AMPLE), ("open", 16, 3, AMPLE), ("open", 18, 1, AMPLE),
-           ("random", 13, 4, AMPLE), ("random", 14, 1, AMPLE), ("random", 14, 7, AMPLE), ("random", 14, 4, AMPLE),
-           ("random", 15, 2, AMPLE), ("random", 15, 4, AMPLE), ("random", 16, 3, AMPLE), ("random", 18, 3, AMPLE),
-           ("maze", 13, 3, AMPLE), ("corridors", 14, 2, AMPLE)]
+           ("random", 13, 4, AMPLE), ("random", 14, 1, AMPLE), ("random", 15, 2, AMPLE), ("random", 16, 3, AMPLE),
+           ("rooms", 9, 3, AMPLE), ("rooms", 10, 5, AMPLE), ("pillars", 6, 3, AMPLE),
+           ("small", 12, 5, AMPLE), ("dense", 8, 5, AMPLE)]
 
-# At once at the limit, so that prices are tried.
-PRICED = [("open", 18, 1, 0), ("open", 20, 2, 0), ("random", 18, 3, 0), ("random", 16, 3, 0), ("maze", 13, 3, 0),
-          ("corridors", 5, 1, 0)]
+# At once at the limit, so that prices are tried. On each of these grids, of at most 49 cells, they show more than pairs
+# and groups do.
+PRICED = [("small", 9, 1, 0), ("small", 12, 5, 0), ("small", 12, 6, 0), ("dense", 7, 3, 0), ("dense", 7, 4, 0),
+          ("rooms", 5, 1, 0), ("rooms", 5, 6, 0), ("pillars", 5, 1, 0), ("pillars", 5, 3, 0), ("open", 18, 1, 0)]
 
 
 @dataclass(frozen=True)
@@ -88,10 +104,19 @@ class Problem:
 
 
 def problems():
+    return [*(problem_of(Case(TESTS / "cases" / name)) for name in CASES), *(example(*words) for words in SOLVED),
+            *drawn_problems(DRAWN + CROWDED), *priced_problems()]
+
+
+def priced_problems():
+    return drawn_problems(PRICED)
+
+
+def drawn_problems(listed):
     maps = {name: text.split() for name, text in MAPS.items()}
     maps |= {"open": MADE.empty(8, 8), "random": MADE.random_obstacles(8, 8, 20, MADE.Numbers(8))}
-    return [*(problem_of(Case(TESTS / "cases" / name)) for name in CASES), *(example(*words) for words in SOLVED),
-            *(drawn(maps[name], name, *numbers) for name, *numbers in DRAWN + CROWDED + PRICED)]
+    maps |= {"small": MADE.empty(5, 5), "dense": MADE.random_obstacles(6, 6, 20, MADE.Numbers(8))}
+    return [drawn(maps[name], name, *numbers) for name, *numbers in listed]
 
 
 def problem_of(case):

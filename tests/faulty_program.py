@@ -20,8 +20,12 @@ PLANNER, RUNS, PLANNER_FILE = "mapf_planner", "mapf_app", "src/plan_in_hand.rt"
 # The height of a map for the first fault. That of the others is greater, and of no problem's own map as great.
 FIRST = 100
 
-# How many seconds one run may take. Without a fault it takes a small part of one.
-SECONDS = 20
+# How many seconds one run may take. Without a fault it takes a few at most.
+SECONDS = 60
+
+# The crate that finds prices, its file with the numbers of states that it may expand, and by which each is divided: a
+# preview expands states a hundred times as slowly as the built program.
+PRICES, BUDGETS_FILE, BUDGET, DIVISOR = "mapf_prices", "src/rounded.rt", re.compile(r"(?<=states: )[0-9_]+"), 100
 
 
 @dataclass(frozen=True)
@@ -120,6 +124,7 @@ def put_side_by_side(room, planted):
     one with each that is in it, and in their places the choices between them.
     """
     crates = copy_sources(room)
+    put_small_budgets(crates / PRICES / BUDGETS_FILE)
     stands_on = stands_on_with_planner(crates)
     for crate in CHOICES:
         (crates / crate).rename(crates / f"{crate}_0")
@@ -150,6 +155,14 @@ def stands_on_with_planner(crates):
     return stands_on
 
 
+def put_small_budgets(file):
+    """Divides the budgets of prices in a source."""
+    text, divided = BUDGET.subn(lambda found: str(int(found[0]) // DIVISOR), file.read_text())
+    if not divided:
+        raise NotBuilt(f"no budget stands in {file}")
+    put(file, text)
+
+
 def put_fault(crates, number, fault, below):
     """Puts a copy with a fault beside the others: copies of the crate with the fault and of those that stand on it, of a
     crate that is chosen and of those below it. Answers what each of them stands on.
@@ -161,7 +174,8 @@ def put_fault(crates, number, fault, below):
         for source in (crates / name / "src").glob("*.rt"):
             put(source, copied(source.read_text(), crate, names))
     for file in fault.files:
-        planted = fault.planted(file, (CRATES / fault.crate / file).read_text())
+        source = CRATES / RUNS if fault.crate == RUNS else place_of(crates, fault.crate)
+        planted = fault.planted(file, (source / file).read_text())
         place = "src/lib.rt" if fault.crate == RUNS else file
         put(crates / names[faulty] / place, copied(planted, faulty, names))
     shared = {crate: [f"{crate}_0"] if crate in CHOICES else [] for crate in names}
