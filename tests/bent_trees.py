@@ -52,9 +52,10 @@ LINES = {
     "takes labels below the greatest alone": [('"L": (1, 9_999_999)', '"L": (1, 9_999_998)')],
     "takes no label of 1": [('"L": (1, 9_999_999)', '"L": (2, 9_999_999)')],
     "ignores blocks of agents that aren't there": [
-        ('"I": (0, agents - 1)', '"I": (0, agents)'),
+        ('"I": (0, agents - 1)', '"I": (0, agents)'), ("Way(goals)", "Way([*goals, None])"),
         (BLOCKS_OF_NODE, "for agent, entries in [block for block in blocks if block[0] < len(self.goals)]:")],
-    "takes a split of an agent that isn't there": [('"J": (0, agents - 1)', '"J": (0, agents)')],
+    "takes a split of an agent that isn't there": [
+        ('"J": (0, agents - 1)', '"J": (0, agents)'), ("Way(goals)", "Way([*goals, None])")],
     "takes agents in any order": [("blocks and agent <= blocks[-1][0]", "False")],
     "takes an agent twice": [("agent <= blocks[-1][0]", "agent < blocks[-1][0]")],
     "takes entries in any order": [(RISE, "False")],
@@ -77,19 +78,27 @@ LINES = {
 
 BAD_SPLIT = "    if one == other or any(cell not in free for cell in cells):\n"
 BAD_SWAP = "    if here == there or there not in steps_from(here, free):\n"
-LEFT_VERTEX, RIGHT_VERTEX = (f'Node(node, {agent}, ("vertex", cells[0], tick))' for agent in ("one", "other"))
-LEFT_EDGE, RIGHT_EDGE = 'Node(node, one, ("edge", here, there, tick))', 'Node(node, other, ("edge", there, here, tick))'
+LEFT_VERTEX, RIGHT_VERTEX = (f'Node(depth, {agent}, ("vertex", cells[0], tick))' for agent in ("one", "other"))
+LEFT_EDGE = 'Node(depth, one, ("edge", here, there, tick))'
+RIGHT_EDGE = 'Node(depth, other, ("edge", there, here, tick))'
 IS_VERTEX, CELLS_OF_SWAP = '    if kind == "vertex":\n', "    here, there = cells\n"
-BARS = "{node.bar for node in self.way_up() if node.agent == agent}"
-NODE = "        self.above, self.agent, self.bar, self.blocks = above, agent, bar, {}\n"
-JUDGED = "            self.judge_entries(entries, node.blocks[agent], node.bars(agent), agent)\n"
+BARS = "self.way.bars[agent]"
+UP = "reversed(self.way.nodes)"
+NODE = "        self.depth, self.agent, self.bar = depth, agent, bar\n"
+ENTER = "        self.nodes.append(node)\n        if node.bar:\n"
+LEAVE = "            node = self.nodes.pop()\n"
+REMOVE = "            if node.is_new:\n"
+JUDGED = f"            self.judge_entries(entries, self.way.blocks[agent][-1], {BARS}, agent)\n"
 IS_FORBIDDEN = '("vertex", cell, tick) in bars'
 ENTERS, MOVES = '("vertex", other, tick + 1) in bars', '("edge", cell, other, tick) in bars'
 LEAVES_AT_TICK = 'any(bar[:2] == ("edge", cell) and bar[3] == tick for bar in bars)'
 
-# After these edits each node knows all nodes of its tree that were made before it, and what it lost.
-ALL_NODES = NODE, NODE + "        self.all = above.all if above else []\n        self.all.append(self)\n"
-LOST = NODE, NODE + "        self.lost = None\n"
+# After these edits the bar of a node's sibling holds too, if it is named.
+SIBLING = [(NODE, NODE + "        self.sibling = None\n"),
+           (ENTER, "        if node.sibling:\n            self.enter(node.sibling)\n"
+                   "            self.nodes.pop()\n" + ENTER),
+           (LEAVE, LEAVE + "            if node.sibling:\n                self.nodes.append(node.sibling)\n"
+                           "                self.leave(len(self.nodes) - 1)\n")]
 
 
 def of_children(change):
@@ -101,8 +110,13 @@ def of_children(change):
 
 def of_own_split(children):
     """The edit after which a split's own blocks are judged with constraints of its children too."""
-    bars = f"node.bars(agent) | {{child.bar for child in {children} if child.agent == agent}}"
-    return JUDGED, JUDGED.replace("node.bars(agent)", bars)
+    bars = f"{BARS} | {{child.bar for child in {children} if child.agent == agent}}"
+    return JUDGED, JUDGED.replace(BARS, bars)
+
+
+def of_bars(bars):
+    """The edit after which other constraints hold for an agent."""
+    return JUDGED, JUDGED.replace(BARS, f"{{{bars}}}")
 
 
 def of_edge(change):
@@ -128,7 +142,7 @@ SPLITS = {
     "constrains the first agent of a swap split twice": [(RIGHT_EDGE, LEFT_EDGE)],
     "constrains the second agent of a swap split twice": [(LEFT_EDGE, RIGHT_EDGE)],
     "constrains the smaller agent in the left child": [(IS_VERTEX, SORTED + IS_VERTEX)],
-    "constrains all agents": [(BARS, "{node.bar for node in self.way_up() if node.bar}")],
+    "constrains all agents": [of_bars("node.bar for node in self.way.nodes if node.bar")],
     "constrains both agents of a swap split in one direction": [
         (RIGHT_EDGE, RIGHT_EDGE.replace("there, here", "here, there"))],
     "exchanges the directions of a swap split": [(CELLS_OF_SWAP, "    there, here = cells\n")],
@@ -151,16 +165,15 @@ SPLITS = {
     "lets the left child's constraint hold at the split": [of_own_split("children[:1]")],
     "lets the right child's constraint hold at the split": [of_own_split("children[1:]")],
     "lets the left child's constraint hold in the right child": [
-        of_children("right.above = Node(right.above, left.agent, left.bar)")],
+        *SIBLING, of_children("right.sibling = Node(left.depth, left.agent, left.bar)")],
     "lets the right child's constraint hold in the left child": [
-        of_children("left.above = Node(left.above, right.agent, right.bar)")],
-    "never takes back a constraint": [ALL_NODES, (BARS, BARS.replace("self.way_up()", "self.all"))],
+        *SIBLING, of_children("left.sibling = Node(right.depth, right.agent, right.bar)")],
+    "never takes back a constraint": [(REMOVE, "            if False:\n")],
     "loses a constraint that was added twice": [
-        LOST, of_children("right.lost = left.agent, left.bar"),
-        (BARS, f"{BARS} - {{node.lost[1] for node in self.way_up() if node.lost and node.lost[0] == agent}}")],
-    "takes the constraint of the nearest split alone": [(BARS, BARS.replace("self.way_up()", "[self]"))],
+        (REMOVE, "            if node.bar and node.bar in self.bars[node.agent]:\n")],
+    "takes the constraint of the nearest split alone": [of_bars("node.bar for node in [node] if node.agent == agent")],
     "takes the agent's nearest constraint alone": [
-        (BARS, "{node.bar for node in [node for node in self.way_up() if node.agent == agent][:1]}")],
+        of_bars(f"node.bar for node in [node for node in {UP} if node.agent == agent][:1]")],
 }
 
 # Blocks.
@@ -168,13 +181,12 @@ SPLITS = {
 DISTANCE = "self.distances[agent].get(cell, INFINITE)"
 ABOVE_DISTANCE = f'            refuse_if(label <= {DISTANCE}, f"C7 {{line}}")\n'
 FORBIDDEN = f"            if {IS_FORBIDDEN}:\n                continue\n"
-LAST_BAR = 'last_bar_of_goal = max((bar[2] for bar in bars if bar[:2] == ("vertex", goal)), default=-1)'
+LAST_BAR = "last_bar_of_goal = self.way.goal_ticks[agent][-1]"
 RULE_A = '            refuse_if(cell == goal and last_bar_of_goal < tick, f"C7 {line}")\n'
 STEPS_B = "for other in steps_from(cell, self.free):"
 NEXT = "self.label(block, agent, other, tick + 1)"
 RULE_B = f"label > 1 + {NEXT}"
 ENTRIES = "for line, cell, tick, label in entries:"
-HERE = JUDGED, "            self.here = node\n" + JUDGED
 ON_GOAL = '("vertex", goal)'
 
 
@@ -182,9 +194,9 @@ def above_distance(change):
     return [(ABOVE_DISTANCE, ABOVE_DISTANCE.replace(*change))]
 
 
-def of_last_bar(bars, tick="bar[2]"):
-    """The edits after which (a) looks at other constraints."""
-    return [HERE, (LAST_BAR, f"last_bar_of_goal = max(({tick} for bar in {bars}), default=-1)")]
+def of_last_bar(bars, tick="bar[2]", which="max"):
+    """The edit after which (a) looks at other constraints."""
+    return [(LAST_BAR, f"last_bar_of_goal = {which}(({tick} for bar in {bars}), default=-1)")]
 
 
 def of_bars_on_goal(nodes, which=""):
@@ -234,20 +246,20 @@ BLOCKS = {
     "takes numbers alone at forbidden states": [(IS_FORBIDDEN, f"{IS_FORBIDDEN} and label < INFINITE")],
     "judges no (a)": [(RULE_A, "")],
     "takes an earlier constraint on the goal for (a)": [(RULE_A, RULE_A.replace("< tick", "< 0"))],
-    "takes the earliest constraint on the goal for (a)": [(LAST_BAR, LAST_BAR.replace("max", "min"))],
+    "takes the earliest constraint on the goal for (a)": of_last_bar(f"bars if bar[:2] == {ON_GOAL}", which="min"),
     "takes a constraint on the goal a tick later for too early": [(RULE_A, RULE_A.replace("< tick", "< tick + 2"))],
     "takes edge constraints from the goal for (a)": of_last_bar("bars if bar[1] == goal", "bar[-1]"),
     "takes edge constraints into the goal for (a)": of_last_bar(f"bars if bar[:2] == {ON_GOAL} or bar[2] == goal",
                                                                "bar[-1]"),
     "takes constraints on any cell for (a)": of_last_bar('bars if bar[0] == "vertex"'),
-    "takes constraints on any agent for (a)": of_bars_on_goal("self.here.way_up()"),
-    "takes constraints that were taken back for (a)": [
-        ALL_NODES, *of_bars_on_goal("[node for node in self.here.all if node.agent == agent]")],
-    "takes the nearest constraint on the goal for (a)": of_bars_on_goal("self.here.way_up()", "[:1]"),
-    "takes the farthest constraint on the goal for (a)": of_bars_on_goal("self.here.way_up()", "[-1:]"),
+    "takes constraints on any agent for (a)": of_bars_on_goal(UP),
+    "takes constraints that were taken back for (a)": [("                self.goal_ticks[node.agent].pop()\n",
+                                                       "                pass\n")],
+    "takes the nearest constraint on the goal for (a)": of_bars_on_goal(UP, "[:1]"),
+    "takes the farthest constraint on the goal for (a)": of_bars_on_goal(UP, "[-1:]"),
     "loses a constraint on the goal that was added twice": [
-        LOST, of_children("right.lost = left.bar"),
-        *of_last_bar(f"bars - {{node.lost for node in self.here.way_up()}} if bar[:2] == {ON_GOAL}")],
+        (REMOVE, "            if node.bar and node.bar in self.bars[node.agent]:\n"),
+        *of_last_bar(f"bars if bar[:2] == {ON_GOAL}")],
     "judges no (b)": [(RULE_B, "False")],
     "judges (b) of waits alone": [(STEPS_B, "for other in [cell]:")],
     "judges (b) of moves alone": without_step(0, 0),
@@ -281,15 +293,21 @@ BLOCKS = {
 
 # Inheritance, leaves and clashes.
 
-NEAREST = "next((node.blocks[agent] for node in self.way_up() if agent in node.blocks), {})"
-SET_BLOCK = "            node.blocks[agent] = {(cell, tick): label for _, cell, tick, label in entries}\n"
+NEAREST = "self.way.blocks[agent][-1]"
+OWN = "{(cell, tick): label for _, cell, tick, label in entries}"
+TAKE_BACK, ADD_BLOCK = "                self.blocks[agent].pop()\n", "self.blocks[agent].append(block)"
 WEAK = "total < self.least"
 SUM = "self.judge_sum(sum(labels), line)"
-START_LABEL = "self.label(node.entries(agent), agent, start, 0)"
+START_LABEL = f"self.label({NEAREST}, agent, start, 0)"
 LEAST = "numbers[0] if numbers else INFINITE, grid"
 CLASH = "one == other or self.goals[one] != self.goals[other]"
 SIDE = NODE, NODE + '        self.side = "root"\n'
 BOTH_SIDES = of_children('left.side, right.side = "left", "right"')
+
+
+def of_block(block):
+    """The edit after which another block holds at a leaf."""
+    return START_LABEL, START_LABEL.replace(NEAREST, block)
 
 
 def of_start_label(others):
@@ -298,7 +316,7 @@ def of_start_label(others):
 
 
 def of_own_entries(condition):
-    entries = "node.entries(agent).items()"
+    entries = f"{NEAREST}.items()"
     return of_start_label(f"[label for (cell, tick), label in {entries} if {condition}]")
 
 
@@ -312,32 +330,28 @@ def of_leaves(condition):
     return SUM, f"if {condition}:\n                {SUM}"
 
 
-ABOVE = "self.here.above.entries(agent) if self.here.above else {}"
-ALL_BLOCKS = "[above.blocks[agent] for above in node.way_up() if agent in above.blocks]"
-LISTS_A_START = "any(tick == 0 for _, tick in node.blocks[agent])"
+ALL_BLOCKS = "self.way.blocks[agent]"
 MANHATTAN = "{cell: abs(cell[0] - goal[0]) + abs(cell[1] - goal[1]) for cell in distances}"
 
 LEAVES = {
-    "lets no block hold below": [(NEAREST, "self.blocks.get(agent, {})")],
-    "lets a block hold in its children alone": [(NEAREST, NEAREST.replace("self.way_up()", "list(self.way_up())[:2]"))],
+    "lets no block hold below": [of_block("node.blocks.get(agent, {})")],
+    "lets a block hold in its children alone": [
+        of_block("next((node.blocks[agent] for node in self.way.nodes[:-3:-1] if agent in node.blocks), {})")],
     "lets a block of any agent end the others": [
-        (NEAREST, "next((node.blocks.get(agent, {}) for node in self.way_up() if node.blocks), {})")],
-    "adds a deeper block to the one above": [
-        (SET_BLOCK, "            above = node.entries(agent)\n" + SET_BLOCK
-         + "            node.blocks[agent] = {**above, **node.blocks[agent]}\n")],
+        of_block(f"next((node.blocks.get(agent, {{}}) for node in {UP} if node.blocks), {{}})")],
+    "adds a deeper block to the one above": [(OWN, f"{{**{NEAREST}, **{OWN}}}")],
     "lets a deeper block borrow from the one above": [
-        HERE, (RULE_B, RULE_B.replace("block,", f"{{**({ABOVE}), **block}},"))],
+        (RULE_B, RULE_B.replace("block,", f"{{**{ALL_BLOCKS}[-2], **block}},"))],
     "takes the greatest label of a start in blocks above": of_start_label(
         f"[self.label(block, agent, start, 0) for block in {ALL_BLOCKS}]"),
     "takes the block above for a start that isn't listed": [
-        (NEAREST, NEAREST.replace("in node.blocks)", f"in node.blocks and {LISTS_A_START})"))],
-    "lets the left child's blocks hold in the right child": [
-        of_children("right.above = Node(right.above, None, None)\n                right.above.blocks = left.blocks")],
+        of_block(f"next((block for block in reversed({ALL_BLOCKS}) if any(tick == 0 for _, tick in block)), {{}})")],
+    "never takes back a block": [(TAKE_BACK, "                pass\n")],
     "takes back a block after one that replaced it": [
-        LOST, of_children("right.lost = left.blocks"),
-        (NEAREST, f"{{}} if any(node.lost and agent in node.lost for node in self.way_up()) else {NEAREST}")],
+        (TAKE_BACK, "                self.blocks[agent].clear()\n                self.blocks[agent].append({})\n"),
+        (ADD_BLOCK, "self.blocks[agent][1:] = [block]")],
     "takes entries of other agents for labels of starts": of_start_label(
-        "[node.entries(other).get((start, 0), 0) for other in range(len(self.goals))]"),
+        "[self.way.blocks[other][-1].get((start, 0), 0) for other in range(len(self.goals))]"),
     "takes any sum at a leaf": [(WEAK, "False")],
     "takes a sum that is one less": [(WEAK, "total + 1 < self.least")],
     "takes the claimed sum alone": [(WEAK, "total != self.least")],
@@ -351,7 +365,7 @@ LEAVES = {
         (f"block.get((cell, tick), {DISTANCE})", "block.get((cell, tick), self.distances[agent].get(cell, 0))")],
     "takes the label of a start at any tick": of_own_entries("cell == start"),
     "takes the label of any cell at tick 0": of_own_entries("tick == 0"),
-    "adds up the labels of blocks alone": [(START_LABEL, "node.entries(agent).get((start, 0), 0)")],
+    "adds up the labels of blocks alone": [(START_LABEL, f"{NEAREST}.get((start, 0), 0)")],
     "adds up the labels of two agents alone": [of_sum("sum(labels[:2])")],
     "judges leaves without blocks alone": [of_leaves("not blocks")],
     "judges leaves with blocks alone": [of_leaves("blocks")],
@@ -373,10 +387,10 @@ LEAVES = {
          "    return [(x, y) for x, y, _, _ in ends]")],
     "takes a clash of the smaller agent first alone": [(CLASH, CLASH.replace("==", ">="))],
     "takes a clash of agents 0 and 1 alone": [(CLASH, f"{CLASH} or one + other > 1")],
-    "takes a clash at the root alone": [(CLASH, f"{CLASH} or node.above")],
+    "takes a clash at the root alone": [(CLASH, f"{CLASH} or node.depth > 0")],
     "takes a clash for impossible alone": [(CLASH, f"{CLASH} or self.least < INFINITE")],
     "takes a clash for bounds alone": [(CLASH, f"{CLASH} or self.least == INFINITE")],
-    "judges clashes at the root alone": [(CLASH, f"node.above is None and ({CLASH})")],
+    "judges clashes at the root alone": [(CLASH, f"node.depth == 0 and ({CLASH})")],
 }
 
 BENT = {**LINES, **SPLITS, **BLOCKS, **LEAVES}

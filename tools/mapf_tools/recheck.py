@@ -7,9 +7,8 @@ The line and the status are those of `mapf check`: 'optimal C', 'within B C', 'b
 than trust the one that is proved: it shares nothing with mapf, and was written from the text of the formats and
 docs/DEFINITIONS.md alone. What follows the claim in a certificate of version 3 is judged by recheck3.py beside it.
 In place of a plan text PLAN may be what another solver left, which tools/verify reads. That is made a plan text first.
-It is slow: about 200 times slower than mapf. Large maps with many agents take gigabytes, and from each item of
-versions 1 and 2 it walks up to the root, which takes long in a deep tree. Of the limits on sizes it leaves out one,
-that a certificate has at most 2^40 bytes.
+It is slow: about 200 times slower than mapf. Large maps with many agents take gigabytes. Of the limits on sizes it
+leaves out one, that a certificate has at most 2^40 bytes.
 
 A cell is (x, y). A bar is ('vertex', cell, tick) or ('edge', cell, next cell, tick of leaving).
 """
@@ -21,7 +20,7 @@ import os
 import re
 import sys
 from collections import deque
-from collections.abc import Callable, Iterator, Sequence
+from collections.abc import Callable, Sequence
 from typing import Any, NoReturn, TypeVar
 
 from .answers import as_plan_text
@@ -288,27 +287,51 @@ def judge_plan(paths: list[list[Cell]], free: set[Cell], starts: list[Cell], goa
 # Certificates.
 
 class Node:
-    """A place in the tree: the node above it, the bar that it adds for one agent, and its blocks, which are an agent's
-    labels by cell and tick.
+    """A place in the tree: how many nodes are above it, the bar that it adds for one agent, and its blocks, which are
+    labels of an agent by cell and tick.
     """
 
-    def __init__(self, above: "Node | None", agent: int | None, bar: Bar | None) -> None:
-        self.above, self.agent, self.bar, self.blocks = above, agent, bar, {}
+    def __init__(self, depth: int, agent: int | None, bar: Bar | None) -> None:
+        self.depth, self.agent, self.bar = depth, agent, bar
+        self.is_new = False         # Whether no node above adds the same bar.
+        self.blocks: dict[int, Block] = {}
 
-    def way_up(self) -> Iterator["Node"]:
-        """The nodes from here to the root."""
-        node = self
-        while node is not None:
-            yield node
-            node = node.above
 
-    def bars(self, agent: int) -> set[Bar]:
-        """All that the agent may not do here."""
-        return {node.bar for node in self.way_up() if node.agent == agent}
+class Way:
+    """The nodes from the root to the last one, with what they bar each agent and with its blocks."""
 
-    def entries(self, agent: int) -> Block:
-        """The labels of the agent's nearest block, here or above."""
-        return next((node.blocks[agent] for node in self.way_up() if agent in node.blocks), {})
+    def __init__(self, goals: list[Cell]) -> None:
+        self.goals = goals
+        self.nodes: list[Node] = []
+        self.bars: list[set[Bar]] = [set() for _ in goals]
+        self.goal_ticks: list[list[int]] = [[-1] for _ in goals]    # The last of an agent's bars of its goal, so far.
+        self.blocks: list[list[Block]] = [[{}] for _ in goals]      # The last one of an agent holds.
+
+    def leave(self, depth: int) -> None:
+        """Leaves the nodes of this depth and greater ones."""
+        while len(self.nodes) > depth:
+            node = self.nodes.pop()
+            if node.is_new:
+                self.bars[node.agent].remove(node.bar)
+            if node.bar:
+                self.goal_ticks[node.agent].pop()
+            for agent in node.blocks:
+                self.blocks[agent].pop()
+
+    def enter(self, node: Node) -> None:
+        """Enters a node below the last one."""
+        self.nodes.append(node)
+        if node.bar:
+            bars, ticks = self.bars[node.agent], self.goal_ticks[node.agent]
+            node.is_new = node.bar not in bars
+            bars.add(node.bar)
+            is_of_goal = node.bar[:2] == ("vertex", self.goals[node.agent])
+            ticks.append(max(ticks[-1], node.bar[2]) if is_of_goal else ticks[-1])
+
+    def add_block(self, agent: int, block: Block) -> None:
+        """Adds a block of the last node."""
+        self.nodes[-1].blocks[agent] = block
+        self.blocks[agent].append(block)
 
 
 def distances_to(goal: Cell, free: set[Cell]) -> dict[Cell, int]:
@@ -333,6 +356,7 @@ class Tree:
         self.least = least          # What the labels of the starts have to add up to at each leaf.
         self.distances = [distances_to(goal, self.free) for goal in goals]
         self.ranges = ranges_of(grid, len(goals), len(goals))
+        self.way = Way(goals)
 
     def take(self, wanted: list[str]) -> tuple[str, Numbers]:
         """The next line, which has one of the wanted shapes: its shape and its numbers."""
@@ -343,7 +367,7 @@ class Tree:
         if self.version == 3:
             self.judge_parts()
             return
-        due = [Node(None, None, None)]
+        due = [Node(0, None, None)]
         while due:
             due.extend(reversed(self.judge_item(due.pop())))
         self.take([END])
@@ -360,6 +384,8 @@ class Tree:
 
     def judge_item(self, node: Node) -> list[Node]:
         """Judges the next item with its blocks, and answers the nodes below it."""
+        self.way.leave(node.depth)
+        self.way.enter(node)
         shape, numbers = self.take(ITEMS[self.version])
         kind, line = shape.split(" ")[0], self.lines.number
         if kind == "clash":
@@ -370,10 +396,11 @@ class Tree:
         children = [] if kind == "leaf" else children_of(node, kind, numbers, self.free)
         refuse_if(children is None, f"C6 {line}")
         for agent, entries in blocks:
-            node.blocks[agent] = {(cell, tick): label for _, cell, tick, label in entries}
-            self.judge_entries(entries, node.blocks[agent], node.bars(agent), agent)
+            self.way.add_block(agent, {(cell, tick): label for _, cell, tick, label in entries})
+            self.judge_entries(entries, self.way.blocks[agent][-1], self.way.bars[agent], agent)
         if kind == "leaf":
-            labels = [self.label(node.entries(agent), agent, start, 0) for agent, start in enumerate(self.starts)]
+            labels = [self.label(self.way.blocks[agent][-1], agent, start, 0)
+                      for agent, start in enumerate(self.starts)]
             self.judge_sum(sum(labels), line)
         return children
 
@@ -403,7 +430,7 @@ class Tree:
     def judge_entries(self, entries: list[Entry], block: Block, bars: set[Bar], agent: int) -> None:
         """Judges the labels of one block, under all that bars the agent here."""
         goal = self.goals[agent]
-        last_bar_of_goal = max((bar[2] for bar in bars if bar[:2] == ("vertex", goal)), default=-1)
+        last_bar_of_goal = self.way.goal_ticks[agent][-1]
         for line, cell, tick, label in entries:
             refuse_if(label <= self.distances[agent].get(cell, INFINITE), f"C7 {line}")
             if ("vertex", cell, tick) in bars:
@@ -416,16 +443,17 @@ class Tree:
 
 def children_of(node: Node, kind: str, numbers: Numbers, free: set[Cell]) -> list[Node] | None:
     """The two nodes below a split, each with its agent's part of the conflict barred. None, where the split is bad."""
+    depth = node.depth + 1
     one, other, *pairs, tick = numbers
     cells = list(zip(pairs[0::2], pairs[1::2]))
     if one == other or any(cell not in free for cell in cells):
         return None
     if kind == "vertex":
-        return [Node(node, one, ("vertex", cells[0], tick)), Node(node, other, ("vertex", cells[0], tick))]
+        return [Node(depth, one, ("vertex", cells[0], tick)), Node(depth, other, ("vertex", cells[0], tick))]
     here, there = cells
     if here == there or there not in steps_from(here, free):
         return None
-    return [Node(node, one, ("edge", here, there, tick)), Node(node, other, ("edge", there, here, tick))]
+    return [Node(depth, one, ("edge", here, there, tick)), Node(depth, other, ("edge", there, here, tick))]
 
 
 AnyTree = TypeVar("AnyTree", bound=Tree)

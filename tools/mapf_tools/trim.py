@@ -156,7 +156,7 @@ class Trimmer(recheck.Tree):
     def judge_item(self, node: Any) -> list[Any]:
         """As recheck's."""
         below = super().judge_item(node)
-        above = self.open.get(node.above)
+        above = self.open.get(self.way.nodes[-2]) if node.depth > 0 else None
         if self.root is None or above is not None:
             part = Part(above, node.agent, node.bar, above.sum if above else sum(map(self.distance, self.agents())))
             self.keep(node, part)
