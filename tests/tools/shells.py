@@ -6,6 +6,7 @@ import pty
 import re
 import select
 import shlex
+import signal
 import struct
 import subprocess
 import tempfile
@@ -30,7 +31,8 @@ _mapf
 def offered_by_bash(script, words):
     """What bash offers after `mapf` with these words, of which the last is at the cursor."""
     said = subprocess.run(["bash", "-c", f". {shlex.quote(str(script))}\n{BASH}", "bash", *words],
-                          stdin=subprocess.DEVNULL, stdout=subprocess.PIPE, stderr=subprocess.STDOUT, text=True).stdout
+                          stdin=subprocess.DEVNULL, stdout=subprocess.PIPE, stderr=subprocess.STDOUT, text=True,
+                          timeout=SECONDS).stdout
     return set(said.splitlines())
 
 
@@ -42,7 +44,7 @@ def offered_by_fish(script, words):
         code = f"source {shlex.quote(str(script))}; complete -C {shlex.quote(line)}"
         said = subprocess.run(["fish", "--no-config", "-c", code], cwd=name, stdin=subprocess.DEVNULL,
                               stdout=subprocess.PIPE, stderr=subprocess.STDOUT, text=True,
-                              env={**os.environ, "HOME": name}).stdout
+                              env={**os.environ, "HOME": name}, timeout=SECONDS).stdout
     return {line.partition("\t")[0] for line in said.splitlines()}
 
 
@@ -65,7 +67,9 @@ class ZshSession:
         return self
 
     def __exit__(self, *_):
+        """Ends the shell, which may be without the signal that a lost terminal sends."""
         os.close(self.terminal)
+        os.kill(self.process, signal.SIGKILL)
         os.waitpid(self.process, 0)
         self.folder.cleanup()
 

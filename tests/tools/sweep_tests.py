@@ -420,4 +420,13 @@ def with_workers(bench, wanted, python):
         for process in processes:
             process.terminate()
         for process in processes:
-            process.wait()
+            end(process)
+
+
+def end(process):
+    """Waits until a process that was told to end has ended, and kills it where it goes on."""
+    try:
+        process.wait(SECONDS)
+    except subprocess.TimeoutExpired:
+        process.kill()
+        process.wait()
