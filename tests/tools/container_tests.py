@@ -2,8 +2,10 @@
 of the archive of ./dist, and runs the program and the tools in it.
 """
 
+import os
 import re
 import shutil
+import signal
 import subprocess
 import sys
 import tempfile
@@ -16,8 +18,8 @@ CROSSING = TESTS / "cases" / "solve-crossing"
 ENGINES = "docker", "podman"
 IMAGE = "localhost/mapf-tried-by-its-tests"
 
-# What may take long: the first image has to be fetched.
-SECONDS = 900
+# What a call may take. The longest fetches the image on which ours rests.
+SECONDS = 300
 
 # What is run in a container, one after the other, and what it has to print.
 RUNS = {
@@ -54,7 +56,21 @@ def hindrance_of(engine, base):
 
 
 def ended(*words, cwd=None):
-    return subprocess.run(words, cwd=cwd, stdin=subprocess.DEVNULL, capture_output=True, text=True, timeout=SECONDS)
+    """How a call ended, with no status where that took too long. It may leave processes behind that keep its outputs,
+    so these are files.
+    """
+    with tempfile.TemporaryFile("w+") as out, tempfile.TemporaryFile("w+") as errors:
+        process = subprocess.Popen(words, cwd=cwd, stdin=subprocess.DEVNULL, stdout=out, stderr=errors,
+                                   start_new_session=True)
+        try:
+            status = process.wait(SECONDS)
+        except subprocess.TimeoutExpired:
+            os.killpg(process.pid, signal.SIGKILL)
+            process.wait()
+            status = None
+        for file in (out, errors):
+            file.seek(0)
+        return subprocess.CompletedProcess(words, status, out.read(), errors.read())
 
 
 def context_faults():
