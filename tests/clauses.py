@@ -18,7 +18,7 @@ COLUMNS = 120
 IMPORT = re.compile(r"\buse Rattle\.(mapf\w*)\.specs\.([\w.]+)\.\{([^}]*)\}")
 
 # The line in which a function begins: its indentation, whether it is public, its name.
-FUNCTION = re.compile(r"( *)(pub )?(?:const )?fn (\w+)")
+FUNCTION = re.compile(r'( *)(pub )?(?:const )?(?:extern "C" )?fn (\w+)')
 
 # The line in which a block of methods begins: the trait, if it is one's, and the type.
 METHODS = re.compile(r"impl(?:<.*?>)? (?:(\w+)(?:<.*?>)? for )?(\w+)")
@@ -55,7 +55,7 @@ def wrapped(text, indent=""):
 
 def crate_names():
     """The crates in the order of crates.txt, where each comes after those that it stands on."""
-    return [line.split(":")[0] for line in read("crates.txt").splitlines() if not line.startswith("#")]
+    return [line.split(":")[0].split()[0] for line in read("crates.txt").splitlines() if not line.startswith("#")]
 
 
 def sources(crate):

@@ -2,6 +2,7 @@
 
 import gzip
 import hashlib
+import os
 import re
 import shutil
 import subprocess
@@ -47,6 +48,7 @@ def tests(tally):
         for title, (words, status, said) in runs(place).items():
             tally.add(f"dist, unpacked, {title}", run_faults(place, path, words, status, said))
         tally.add("dist, the man page and the completions", shared_faults(place))
+        try_library(tally, place, folder)
 
 
 def made(folder):
@@ -123,6 +125,35 @@ def shared_faults(place):
         return [f"there are {names[0]}, and it wrote {names[1]}"]
     texts = [[(folder / name).read_text().splitlines() for name in names[0]] for folder in folders]
     return [f"{name} differs" for name, one, other in zip(names[0], *texts) if one[1:] != other[1:]]
+
+
+def try_library(tally, place, folder):
+    """A program in C is compiled as pkg-config says, over the library in the archive, and runs."""
+    if not (place / "lib").exists():
+        tally.skip("dist, the library for C", "since ./library hasn't made it for this program")
+        return
+    names = sorted(str(path.relative_to(place / "lib")) for path in (place / "lib").rglob("*") if path.is_file())
+    wanted = ["libmapf.a", "libmapf.so", "pkgconfig/mapf.pc"]
+    tally.add("dist, the library's files", [] if names == wanted else [f"there are {names}, wanted {wanted}"])
+    if not shutil.which("gcc") or not shutil.which("pkg-config"):
+        tally.skip("dist, a program in C", "since gcc or pkg-config isn't there")
+        return
+    tally.add("dist, a program in C", compiled_faults(place, folder))
+
+
+def compiled_faults(place, folder):
+    environment = {**os.environ, "PKG_CONFIG_PATH": str(place / "lib" / "pkgconfig")}
+    told = [subprocess.run(["pkg-config", option, "mapf"], env=environment, capture_output=True, text=True).stdout
+            for option in ("--cflags", "--libs", "--modversion")]
+    program, source = str(folder / "calls"), str(TESTS / "library_calls.c")
+    words = ["gcc", "-std=c99", *told[0].split(), source, *told[1].split(), f"-Wl,-rpath,{place / 'lib'}"]
+    ended = subprocess.run([*words, "-o", program], capture_output=True, text=True)
+    if ended.returncode:
+        return [f"gcc says {ended.stderr[:600]!r} after {told}"]
+    said = subprocess.run([program, "version"], capture_output=True, text=True).stdout
+    numbers = [int(number) for number in told[2].strip().split(".")]
+    version = numbers[0] * 1_000_000 + numbers[1] * 1_000 + numbers[2]
+    return [] if said == f"{version} {version}\n" else [f"the version is {said!r}, and {told[2]} by pkg-config"]
 
 
 def missing_links(place):

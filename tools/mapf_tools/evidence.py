@@ -15,6 +15,7 @@ from dataclasses import dataclass
 from pathlib import Path
 from typing import overload
 
+from .library import library_for
 from .process import ToolError, progress, signals_held
 
 # The files in the folder that shows an answer: the problem, the other solver's plan, a certificate, what the search
@@ -100,6 +101,7 @@ class Evidence:
 
     def __init__(self, mapf: str, given: argparse.Namespace, searches: Searches | None = None) -> None:
         self.mapf = mapf
+        self.library = library_for(mapf)
         self.searches = searches
         self.agents: int = given.k
         self.limit: int = given.limit
@@ -138,8 +140,14 @@ class Evidence:
         return ["check", MAP, SCEN, str(self.agents), plan, CERT]
 
     def check(self, plan: str) -> str:
-        """The verdict of mapf on this plan text beside the certificate."""
-        return run(self.mapf, self.words_of_check(plan), self.folder)
+        """The verdict of mapf on this plan text beside the certificate: by the library where it is there."""
+        if self.library is None:
+            return run(self.mapf, self.words_of_check(plan), self.folder)
+        texts = [(self.folder / name).read_bytes() for name in (MAP, SCEN, plan, CERT)]
+        line = self.library.check(texts[0], texts[1], self.agents, texts[2], texts[3])
+        if line.startswith("F"):
+            raise unanswered("check", line)
+        return line
 
     def show(self, plan: str, verdict: str, meaning: str) -> None:
         """Notes this check of a plan text beside the certificate, of which this has to be the verdict."""
@@ -233,9 +241,14 @@ def run(mapf: str, words: list[str], folder: Path, until: float | None = None) -
     if process.returncode < 0:
         raise ToolError(f"mapf {words[0]} was ended by signal {-process.returncode}: see whether memory ran out")
     if not out:
-        raise ToolError(f"mapf {words[0]} says '{err.strip()}': docs/FORMATS.md tells what it means")
+        raise unanswered(words[0], err.strip())
     sys.stderr.write(err)
     return out.strip()
+
+
+def unanswered(name: str, said: str) -> ToolError:
+    """What is told where mapf has an error in place of an answer."""
+    return ToolError(f"mapf {name} says '{said}': docs/FORMATS.md tells what it means")
 
 
 def has_ended(process: subprocess.Popen[str], name: str, until: float | None) -> bool:

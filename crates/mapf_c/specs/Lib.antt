@@ -1,0 +1,4 @@
+pub mod Faults
+pub mod Answers
+pub mod Checks
+pub mod Solves

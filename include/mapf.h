@@ -1,0 +1,152 @@
+/* The calls of mapf for C and C++: solve a problem of multi-agent path finding, and check a plan with its certificate.
+
+   Texts. A text is given as a pointer and a length in bytes, and need not end with a 0. The pointer is never null, also
+   where the length is 0. What the texts are is said in docs/FORMATS.md. A map, a scenario and a plan text have at most
+   67,108,864 bytes, a certificate 1,099,511,627,776; a longer one is told as MAPF_F4.
+
+   Buffers. Answers that are texts go into buffers of the caller's, which are given as texts are. A buffer overlaps no
+   text and no other buffer.
+
+   Memory. A call keeps nothing, and there is nothing to be freed. It takes its memory by malloc and realloc, gives all
+   of it back by free before it returns, and answers MAPF_F6 where malloc or realloc returns null. These three have to
+   belong together, and blocks have to begin at multiples of 16, as those of every C library do.
+
+   Threads. Any calls may run in several threads at once, as long as no buffer of one is a text or a buffer of another.
+   A call shares nothing with another one, opens no file, prints nothing and never ends the process. Don't call from a
+   handler of signals, nor in the child of a fork of a process with threads.
+
+   Units. Agents, rows of the grid and rows of the scenario are counted from 0, columns and ticks too, lines of a text
+   from 1. Costs and bounds are in ticks: the cost of a plan is the sum, over its agents, of the tick of the last arrival
+   at the goal.
+
+   What is proved. The clauses of crates/mapf_c are proved of each call, and docs/PROOFS.md says what they rest on. Below,
+   'Proved' says in a sentence what they are. Nothing checks that a caller passes what is asked for here. */
+#ifndef MAPF_H
+#define MAPF_H
+
+#include <stddef.h>
+#include <stdint.h>
+
+#ifdef __cplusplus
+extern "C" {
+#endif
+
+/* The version of this header: 1,000,000 times the first number, 1,000 times the second, and the third. */
+#define MAPF_VERSION 1000000
+
+/* mapf_fault.error: no error; the errors F1 to F6 of a run; a number of the caller's is out of its range; and the
+   refusals C1 to C10. docs/FORMATS.md, section 8, says what F1 to F6 and C1 to C10 mean. No call answers F5. */
+#define MAPF_NO_FAULT 0u
+#define MAPF_F1 1u  /* the map has the error that `defect` tells */
+#define MAPF_F2 2u  /* the scenario has it */
+#define MAPF_F3 3u  /* the plan text, or its plan, has it */
+#define MAPF_F4 4u  /* the text that `defect` tells is too long */
+#define MAPF_F6 6u  /* memory ran out */
+#define MAPF_RANGE 10u
+#define MAPF_C1 11u  /* the plan text has the error that `defect` tells */
+#define MAPF_C2 12u  /* the certificate has it */
+#define MAPF_C3 13u  /* one of these two is for another number of agents */
+#define MAPF_C4 14u  /* the certificate's claim doesn't fit the answer of the plan text */
+#define MAPF_C5 15u  /* the plan isn't valid: `defect` tells why */
+#define MAPF_C6 16u  /* what stands in the line `first` of the certificate is wrong: a split, */
+#define MAPF_C7 17u  /* a label, */
+#define MAPF_C8 18u  /* a leaf, */
+#define MAPF_C9 19u  /* a clash, */
+#define MAPF_C10 20u /* or something else of version 3 */
+
+/* mapf_fault.defect: the number of an error of docs/FORMATS.md, with 100 for M1 to M9 (of a map), 200 for S1 to S7 (of a
+   scenario), 300 for P1 to P4 (of a plan text), 400 for K1 to K4 (of a certificate) and 500 for V1 to V5 (of a plan that
+   isn't valid): M4 is 104. Or which text is too long. 0 where there is none. */
+#define MAPF_MAP 601u
+#define MAPF_SCEN 602u
+#define MAPF_PLAN 603u
+#define MAPF_CERT 604u
+
+/* An error or a refusal. `count` says how many of the three numbers there are, 0 to 3, and the others are 0:
+
+     M4, M9     a line of the map               M6        a row of the grid
+     M7         a column and a row of it        M8        how many rows the map has
+     S2, S4-S6  a row of the scenario           S3        a row of the scenario, and a field, counted from 1
+     S7         how many rows the scenario has  P, K, C6-C10  a line
+     V1, V3     an agent                        V2        an agent and a tick
+     V4, V5     two agents and a tick */
+typedef struct mapf_fault {
+    uint32_t error;
+    uint32_t defect;
+    uint32_t count;
+    uint64_t first;
+    uint64_t second;
+    uint64_t third;
+} mapf_fault;
+
+/* mapf_answer.kind. */
+#define MAPF_NO_ANSWER 0u  /* `fault` says why */
+#define MAPF_OPTIMAL 1u    /* a valid plan costs `cost`, and none costs less */
+#define MAPF_WITHIN 2u     /* a valid plan costs `cost`, and none costs less than `bound`, which is smaller */
+#define MAPF_BOUND 3u      /* there is no plan here, and no valid plan costs less than `bound` */
+#define MAPF_IMPOSSIBLE 4u /* no plan is valid */
+
+/* mapf_answer.cause: why a search answers MAPF_BOUND. 0 for all other answers. */
+#define MAPF_SPLITS 1u /* its splits are used up */
+#define MAPF_TICKS 2u  /* it would have to split at tick 1,000,000 or later */
+
+/* What a call found. `bound` and `cost` are 0 to 1,999,999,800. Where a plan is optimal, both are its cost; what an
+   answer doesn't have is 0. `fault` is all 0 unless `kind` is MAPF_NO_ANSWER. */
+typedef struct mapf_answer {
+    uint32_t kind;
+    uint32_t cause;
+    uint64_t bound;
+    uint64_t cost;
+    mapf_fault fault;
+} mapf_answer;
+
+/* mapf_question.search: plain conflict-based search, and the second search, which docs/USE.md explains. */
+#define MAPF_CBS 0u
+#define MAPF_CBSH 1u
+
+/* What a search is asked for. */
+typedef struct mapf_question {
+    uint32_t agents;       /* how many agents of the scenario count, 1 to 200 */
+    uint32_t search;       /* MAPF_CBS or MAPF_CBSH */
+    uint32_t limit;        /* how many splits the search may make, 0 to 100,000 */
+    uint32_t improvements; /* how often MAPF_CBSH improves its first plan, 0 to 1,000,000; the program takes 50 * agents */
+} mapf_question;
+
+/* What a search found, and its two texts. */
+typedef struct mapf_solution {
+    mapf_answer answer;
+    mapf_fault refused; /* all 0. Else the check refused what MAPF_CBSH answered, and this is the answer of MAPF_CBS */
+    uint32_t is_written; /* 1 if both texts were written, else 0 */
+    size_t plan_length;  /* bytes of the plan text, 0 if there is no answer */
+    size_t cert_length;  /* bytes of the certificate, 0 if there is no answer */
+} mapf_solution;
+
+/* Returns the version of the library, which is MAPF_VERSION of the header that belongs to it. */
+uint32_t mapf_version(void);
+
+/* Checks a plan text and a certificate for the problem of the first `agents` agents (1 to 200) of a scenario.
+
+   Proved: a verdict is true of the problem that the map and the scenario spell, whoever wrote the other two texts; an
+   error is one that the texts have; and what has to be accepted is accepted, unless a text is too long or memory runs
+   out. That the error is the first one, and the line of C6 to C10, is tested. */
+mapf_answer mapf_check(const char *map, size_t map_length, const char *scen, size_t scen_length, uint32_t agents,
+                       const char *plan, size_t plan_length, const char *cert, size_t cert_length);
+
+/* Solves the problem of the first agents of a scenario, and writes a plan text, in version 2, and a certificate, in
+   version 2 or, by MAPF_CBSH, 3. Nothing but `limit` bounds the time and the memory that a search takes.
+
+   If there is an answer and both texts fit into their buffers, they are written to their fronts. Else nothing is
+   written, and the lengths say how much room they need: a second call with enough room answers the same, and writes
+   these texts. Bytes behind a text stay as they were.
+
+   Proved: the answer is true of the problem that the map and the scenario spell, mapf_check accepts the two texts with
+   it, an error is one that these have, and nothing but the two texts is written. That the same call answers the same is
+   tested. */
+mapf_solution mapf_solve(const char *map, size_t map_length, const char *scen, size_t scen_length,
+                         mapf_question question, char *plan, size_t plan_room, char *cert, size_t cert_room);
+
+#ifdef __cplusplus
+}
+#endif
+
+#endif
