@@ -144,7 +144,7 @@ def put_side_by_side(room, planted):
 
 def stands_on_with_planner(crates):
     """What each crate stands on, where the planner is one."""
-    listed = dict(re.findall(r"^(\w+): *(.*)$", read("crates.txt"), re.MULTILINE))
+    listed = dict(re.findall(r"^(\w+)(?: staticlib)?: *(.*)$", read("crates.txt"), re.MULTILINE))
     stands_on = {crate: below.split() for crate, below in listed.items()}
     source = (crates / RUNS / PLANNER_FILE).read_text()
     put(crates / PLANNER / "src" / "lib.rt", source)
