@@ -104,7 +104,7 @@ kept_by_reply before after agent (Hold other) reply progress order = subst (λ (
 kept_by_reply before after agent (Go cell) (advances, visit, next, cell_is, none) progress order =
     (ap (λ (p : Progress). p.visits) advances.2, advanced_progress before after agent visit progress advances next, advanced_order before after agent visit progress order advances next none)
 
-kept_by_replies : (agents : List ℕ) (replies : List Reply) (before after : Progress) → AreReplies before agents replies after → IsProgress before → IsInOrder before → (after.visits ≡ before.visits) × IsProgress after × IsInOrder after
+pub kept_by_replies : (agents : List ℕ) (replies : List Reply) (before after : Progress) → AreReplies before agents replies after → IsProgress before → IsInOrder before → (after.visits ≡ before.visits) × IsProgress after × IsInOrder after
 kept_by_replies [] [] before after same progress order = subst (λ (p : Progress). (p.visits ≡ before.visits) × IsProgress p × IsInOrder p) same (refl, progress, order)
 kept_by_replies [] (reply ∷ replies) before after none progress order = absurd none
 kept_by_replies (agent ∷ agents) [] before after none progress order = absurd none
@@ -119,7 +119,7 @@ beginning_number [] agent number is = absurd cc
 beginning_number (own ∷ visits) zero number is = (sym (same_Some 0 number is), own, refl)
 beginning_number (own ∷ visits) (suc agent) number is = beginning_number visits agent number is
 
-length-beginning : (visits : List (List Visit)) → length {A = ℕ} (map (λ (own : List Visit). 0) visits) ≡ length visits
+pub length-beginning : (visits : List (List Visit)) → length {A = ℕ} (map (λ (own : List Visit). 0) visits) ≡ length visits
 length-beginning [] = refl
 length-beginning (own ∷ visits) = ap suc (length-beginning visits)
 
@@ -237,7 +237,7 @@ cells_are_a_prefix visits agents replies progress replied agent own first number
     ap (λ xs. xs ++ cells_entered agent agents replies) (sym one) ∙ all ∙ ap (cells own) (sym count)
 
 -- an agent has one next visit
-one_next : (before : Progress) (agent : ℕ) (a b : Visit) → IsNext before agent a → IsNext before agent b → a ≡ b
+pub one_next : (before : Progress) (agent : ℕ) (a b : Visit) → IsNext before agent a → IsNext before agent b → a ≡ b
 one_next before agent a b (m, m_is, a_is) b_next = one_visit before.visits agent (m + 1) a b a_is (next_number before agent b m m_is b_next)
 
 one_change : (before after other : Progress) (agent : ℕ) → Advances before agent after → Advances before agent other → after ≡ other

@@ -5,3 +5,5 @@ pub mod Turns
 pub mod DispatchLaws
 pub mod Events
 pub mod Replies
+pub mod Cycles
+pub mod Following

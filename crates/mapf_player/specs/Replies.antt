@@ -14,6 +14,10 @@ reply_line width agent (Go cell) =
 reply_line width agent (Hold other) = codes "hold " ++ (decimal agent ++ (codes " by " ++ (decimal other ++ (10 ∷ []))))
 reply_line width agent Done = codes "done " ++ (decimal agent ++ (10 ∷ []))
 
+-- room for the longest such line
+abbrev pub reply_room : ℕ
+reply_room = 66
+
 -- the lines of all replies, in the order in which the agents asked
 abbrev pub reply_text : ℕ → List ℕ → List Reply → List ℕ
 reply_text width [] replies = []

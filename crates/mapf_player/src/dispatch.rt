@@ -4,6 +4,7 @@ ghost use Rattle.std.specs.Prelude.{◌≡◌, ◌<◌, ◌≤◌, ◌+◌, ◌*
 ghost use Rattle.std.specs.Prelude.{IfOk, IfSome, IsTrue, OnOk, MatchOption, slice_get};
 ghost use Rattle.std.specs.List.Sorted.{IsNonDecreasingBy};
 ghost use Rattle.mapf_model.specs.Plan.{Instance, IsValid};
+ghost use Rattle.mapf_player.specs.Cycles.{IsHeldBy};
 ghost use Rattle.mapf_player.specs.Visits.{AreVisitsOfAll};
 ghost use Rattle.mapf_player.specs.Dispatching.{Advances, IsIn, IsLeastAwaited, IsNext, IsOfValidPlan};
 ghost use Rattle.mapf_player.specs.Dispatching.{IsProgress, IsReply, beginning};
@@ -114,6 +115,8 @@ pub struct Dispatch {
 }
 
 impl Model for Dispatch {
+    ghost use Rattle.std.specs.Prelude.{length, ◌≤◌};
+    ghost use Rattle.mapf_model.specs.Limits.{most_agents};
     ghost use Rattle.mapf_player.specs.Dispatching.{Progress, IsOfValidPlan};
     ghost use Rattle.mapf_player.specs.Turns.{AreSortedTurns};
 
@@ -122,7 +125,7 @@ impl Model for Dispatch {
     ghost view = { λ d. record { visits = d.visits.items; numbers = d.numbers.items } };
 
     ghost invariant = { λ d. IsOfValidPlan (record { visits = d.visits.items; numbers = d.numbers.items })
-        × AreSortedTurns d.visits.items d.turns.items };
+        × AreSortedTurns d.visits.items d.turns.items × (length d.numbers.items ≤ most_agents) };
 }
 
 impl Dispatch {
@@ -146,6 +149,28 @@ impl Dispatch {
         })
     }
 
+    /// Returns how many agents there are: 1 to 200.
+    pub fn agents(&self) -> u32
+        ensures count { result ≡ length self.now.numbers }
+        ensures few { result ≤ most_agents }
+        // They follow a valid plan.
+        ensures valid { IsOfValidPlan self.now }
+    {
+        self.numbers.len() as u32
+    }
+
+    /// Returns the visits of an agent, in their order. None if it isn't an agent. Nothing is allocated.
+    pub fn visits(&self, agent: u32) -> Option<&[Visit]>
+        ensures own { MatchOption result (slice_get self.now.visits agent ≡ None)
+            (λ own. slice_get self.now.visits agent ≡ Some own.now) }
+        ensures few { IfSome result (λ own. length own.now ≤ most_path_cells) }
+    {
+        match self.visits.get(agent as usize) {
+            Some(own) => Some(own.as_slice()),
+            None => None,
+        }
+    }
+
     /// Returns the reply to an agent that asks to move on to its next cell. If the reply is `Go`, the agent is in that
     /// cell from now on, and has left the one before. Nothing is allocated.
     pub fn ask(&mut self, agent: u32) -> Reply
@@ -165,6 +190,18 @@ impl Dispatch {
         }
         self.advance(agent, number);
         Reply::Go(next.cell)
+    }
+
+    /// Returns the other agent by which this one is held if it asks now, None if it isn't held. Nothing is allocated.
+    pub fn holder(&self, agent: u32) -> Option<u32>
+        requires { agent < length self.now.numbers }
+        ensures held { MatchOption result ((other : ℕ) → IsHeldBy self.now agent other → ⊥) (IsHeldBy self.now agent) }
+        ensures within { IfSome result (λ other. other < length self.now.numbers) }
+    {
+        let Some(next) = self.next(agent, self.number(agent)) else {
+            return None;
+        };
+        self.awaited(&next)
     }
 
     // Returns the agent's next visit after this one, in which it is.

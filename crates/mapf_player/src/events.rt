@@ -35,8 +35,8 @@ fn line_at(number: u64, bytes: &[u8]) -> Result<(&[u8], &[u8]), EventFault>
     }
 }
 
-// Returns the agent of a line.
-fn agent_of(number: u64, line: &[u8], agents: u32) -> Result<u32, EventFault>
+/// Returns the agent of a line.
+pub fn agent_of(number: u64, line: &[u8], agents: u32) -> Result<u32, EventFault>
     ensures found { IfOk result (λ agent. (line.now ≡ decimal agent) × (agent < agents)) }
     ensures only { (agent : ℕ) → agent < agents → line.now ≡ decimal agent → result ≡ Ok agent }
     ensures fault { IfErr result (GivesNoAgent line.now agents number) }

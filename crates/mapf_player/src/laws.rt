@@ -4,6 +4,7 @@ ghost use Rattle.mapf_player.specs.DispatchLaws.{CellsAreAPrefix, NobodyEntersAn
 ghost use Rattle.mapf_player.specs.DispatchLaws.{EveryAgentIsAnswered, ProgressStaysInOrder, RepliesAreOne};
 ghost use Rattle.mapf_player.specs.DispatchLaws.{ReplyTextsAreOne};
 ghost use Rattle.mapf_player.specs.Events.{SpellsOneListOfEvents};
+ghost use Rattle.mapf_player.specs.Following.{FollowersAreSafe};
 ghost use Rattle.mapf_player.specs.Visits.{VisitsAreOne};
 ghost use Rattle.mapf_player.specs.Play.{AgentsAreSeen, TerrainIsSeen, PlaysAreOne};
 
@@ -33,6 +34,12 @@ pub fn agents_stay_apart()
     ensures apart { NoTwoAgentsMeet }
     // No reply sends an agent into a cell in which another is.
     ensures free { NobodyEntersAnOccupiedCell }
+{}
+
+/// Whatever lines come while agents follow a valid plan, no two are ever in one cell, and each enters the cells of its
+/// visits in their order.
+pub fn followers_are_safe()
+    ensures { FollowersAreSafe }
 {}
 
 /// The cells in which an agent was are those of its visits so far.

@@ -6,20 +6,29 @@
 //! visits of a cell that are left come before all others, and the walk back ends at the first that it meets.
 #![tactic(auto)]
 
+mod cycles;
 mod dispatch;
 mod events;
+mod follow_fault;
+mod follower;
 mod frame;
 pub mod laws;
 mod line;
+mod line_start;
+mod live;
 mod marks;
 mod player;
 mod replies;
 mod reply;
+mod request;
 mod row;
 mod visit;
 
 pub use dispatch::Dispatch;
 pub use events::{EventFault, read_events};
+pub use follow_fault::FollowFault;
+pub use live::{MOST_REQUEST_BYTES, follow};
 pub use player::play;
 pub use replies::dispatch_all;
 pub use reply::Reply;
+pub use visit::Visit;

@@ -1,17 +1,46 @@
-//! How the replies of the dispatcher are written, a line for each event. The run of `dispatch` calls it.
-ghost use Rattle.std.specs.Prelude.{◌≡◌, ◌<◌, ◌≤◌, ℕ, List, All, OnOk, OnErr, false, length, take};
+//! How the replies of the dispatcher are written, a line for each event. The run of `dispatch` calls it for all events,
+//! that of `follow` for each line as it comes.
+ghost use Rattle.std.specs.Prelude.{◌≡◌, ◌<◌, ◌≤◌, ◌+◌, ◌++◌, ℕ, List, All, OnOk, OnErr, false, length, take};
 ghost use Rattle.std.specs.Result.{is_err};
 ghost use Rattle.std.specs.Io.KnownBytes.{Appends};
 ghost use Rattle.mapf_player.specs.Dispatching.{AreReplies, Progress};
-ghost use Rattle.mapf_fields.specs.Pages.{PassesOrFails};
-ghost use Rattle.mapf_player.specs.Replies.{reply_line, reply_text};
+ghost use Rattle.mapf_fields.specs.Pages.{PassesOrFails, page_room};
+ghost use Rattle.mapf_player.specs.Replies.{reply_line, reply_room, reply_text};
 ghost use Rattle.mapf_player.specs.declared.reply.Reply.{Reply};
 
 use crate::dispatch::Dispatch;
-use crate::line::{put_line, put_number};
 use crate::reply::Reply;
 use mapf_fields::Page;
 use mapf_model::{Failed, Grid, Sink};
+
+// The greatest number of bytes of a reply's line: a word of two, three numbers with what stands before them, and LF.
+const REPLY_ROOM: usize = 66;
+
+/// Adds the line of the reply to an agent, for which there has to be room.
+pub fn push_reply(page: &mut Page, grid: &Grid, agent: u32, reply: Reply)
+    requires { length page.old + reply_room ≤ page_room }
+    ensures { page.new ≡ page.old ++ reply_line grid.now.width agent reply }
+{
+    match reply {
+        Reply::Go(cell) => {
+            page.push_bytes(b"go");
+            page.push_field(b' ', u64::from(agent));
+            page.push_field(b' ', u64::from(cell.0 % grid.width()));
+            page.push_field(b',', u64::from(cell.0 / grid.width()));
+        }
+        Reply::Hold { other } => {
+            page.push_bytes(b"hold");
+            page.push_field(b' ', u64::from(agent));
+            page.push_bytes(b" by");
+            page.push_field(b' ', u64::from(other));
+        }
+        Reply::Done => {
+            page.push_bytes(b"done");
+            page.push_field(b' ', u64::from(agent));
+        }
+    }
+    page.push_byte(b'\n');
+}
 
 // Writes the reply to an agent.
 fn put_reply<K: Sink>(
@@ -26,18 +55,9 @@ fn put_reply<K: Sink>(
         (reply_line grid.now.width agent reply) result }
     ensures failed { K.has_failed sink.new ≡ is_err result }
 {
-    match reply {
-        Reply::Go(cell) => {
-            put_number(page, sink, b"go ", agent)?;
-            put_number(page, sink, b" ", cell.0 % grid.width())?;
-            put_line(page, sink, b",", cell.0 / grid.width())
-        }
-        Reply::Hold { other } => {
-            put_number(page, sink, b"hold ", agent)?;
-            put_line(page, sink, b" by ", other)
-        }
-        Reply::Done => put_line(page, sink, b"done ", agent),
-    }
+    page.reserve(sink, REPLY_ROOM)?;
+    push_reply(page, grid, agent, reply);
+    Ok(())
 }
 
 // Writes the replies to agents that ask one after another.

@@ -4,4 +4,6 @@
 #[cfg(test)]
 mod events;
 #[cfg(test)]
+mod following;
+#[cfg(test)]
 mod playing;

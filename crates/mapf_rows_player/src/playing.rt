@@ -9,7 +9,7 @@ use std::process::Abort;
 use std::test::Fail;
 
 // An open grid of nine cells, and two agents that cross on it, one of which waits first.
-const CROSSING: Given = Given {
+pub const CROSSING: Given = Given {
     width: 3,
     height: 3,
     blocked: &[],
@@ -40,11 +40,11 @@ const ONE_CELL: Given = Given {
 
 // A grid by its blocked cells, and the paths on it, each a list of cells. Cells are given by their numbers.
 #[derive(Clone, Copy)]
-struct Given<'a> {
-    width: u32,
-    height: u32,
-    blocked: &'a [u32],
-    paths: &'a [&'a [u32]],
+pub struct Given<'a> {
+    pub width: u32,
+    pub height: u32,
+    pub blocked: &'a [u32],
+    pub paths: &'a [&'a [u32]],
 }
 
 // The grid of these sides with these blocked cells.
@@ -65,7 +65,7 @@ fn agent_of(numbers: &[u32]) -> Option<Agent> {
 }
 
 // The problem in which each agent goes from the first cell of its path to the last.
-fn problem_of(alloc: Global, given: &Given) -> Result<Problem, Fail> {
+pub fn problem_of(alloc: Global, given: &Given) -> Result<Problem, Fail> {
     let mut agents = Vec::new(alloc);
     for numbers in given.paths {
         agents.push(agent_of(numbers).ok_or("no agent")?)?;

@@ -1,8 +1,8 @@
-use Rattle.std.proofs.Common.{◌≡◌, ℕ, List, length, map, sym, ap, subst, ◌∙◌}
+use Rattle.std.proofs.Common.{◌≡◌, ℕ, List, length, map, sym, ap, subst, ◌∙◌, arith}
 use Rattle.mapf_player.specs.declared.visit.Visit.{Visit}
 use Rattle.mapf_player.specs.Dispatching.{Progress, IsOfValidPlan}
 use Rattle.mapf_player.specs.Turns.{AreSortedTurns}
-use Rattle.mapf_player.proofs.DispatchLemmas.{reached_first, zeros}
+use Rattle.mapf_player.proofs.DispatchLemmas.{length-beginning, reached_first, zeros}
 use Rattle.mapf_player.proofs.dispatch.Dispatch.new.Goals as goal
 
 numbers_are : (c : goal.In_ok-resize) → c.resize.new.self.items ≡ map (λ (own : List Visit). 0) c.in_ok-visits.visits.items
@@ -20,4 +20,5 @@ invariant_of-result c = (
     reached = reached_first c.args.plan.now c.in_ok-visits.visits.items c.in_ok-visits.ensures.visits;
   }),
   subst (λ vs. AreSortedTurns vs c.in_ok-turns.turns.items) c.deref.ensures.value c.in_ok-turns.ensures,
+  omega (arith, ap length (numbers_are c) ∙ length-beginning c.in_ok-visits.visits.items, c.in_ok-visits.ensures.few),
 )
