@@ -28,7 +28,7 @@ FILES = {"MAP": "map", "SCEN": "scen", "PLAN": "plan", "CERT": "cert", "EVENTS":
 SIDE_BY_SIDE = 4
 
 # The standard streams in the order of their numbers. A case puts one elsewhere: CLOSED is no place at all,
-# and UNREAD a pipe that nobody reads.
+# and UNREAD a pipe that nobody reads. Standard input may be a file of the case.
 STREAMS = ("stdin", "stdout", "stderr")
 
 # What `outcome` puts into each output before a run. It is longer than any text that is written then.
@@ -85,10 +85,12 @@ def run(words, places=None, environment=None, most_bytes=BYTES, program=PROGRAM,
         for number in closed:
             os.close(number)
 
-    with opened(places.get("stdout")) as out, opened(places.get("stderr")) as err:
+    given = places.get("stdin", "CLOSED")
+    with (open(os.devnull if given == "CLOSED" else given, "rb") as input_, opened(places.get("stdout")) as out,
+          opened(places.get("stderr")) as err):
         try:
             status = subprocess.run(
-                [str(program), *words], stdin=subprocess.DEVNULL, stdout=out, stderr=err,
+                [str(program), *words], stdin=input_, stdout=out, stderr=err,
                 env={**os.environ, **(environment or {})}, timeout=seconds, preexec_fn=prepare).returncode
         except subprocess.TimeoutExpired:
             status = f"none after {seconds} seconds"
@@ -177,7 +179,8 @@ class Case:
 
     def inputs(self):
         written = [name for name, _ in self.outputs()]
-        given = [name for word, name in FILES.items() if word in self.words and name not in written]
+        named = (*self.words, self.places.get("stdin"))
+        given = [name for word, name in FILES.items() if word in named and name not in written]
         return [(name, content(self.folder / name)) for name in given]
 
     def wanted(self, name):
@@ -193,13 +196,19 @@ class Case:
             if given is not None:
                 (folder / name).write_bytes(given)
         (folder / "folder").mkdir()
-        places = {word: str(folder / name) for word, name in FILES.items()}
-        places["FOLDER"] = str(folder / "folder")
-        places["BESIDE"] = str(folder / "none" / "file")
-        return [places.get(word, word) for word in self.words]
+        return [self.place(folder, word) for word in self.words]
+
+    def place(self, folder, word):
+        """The file in a folder for which a word stands, or else the word."""
+        others = {"FOLDER": folder / "folder", "BESIDE": folder / "none" / "file"}
+        return str(folder / FILES[word] if word in FILES else others.get(word, word))
+
+    def places_in(self, folder):
+        """Where the standard streams go that have a place."""
+        return {stream: self.place(folder, word) for stream, word in self.places.items()}
 
     def run(self, folder, environment=None, most_bytes=BYTES):
-        return run(self.prepare(folder), self.places, environment, most_bytes)
+        return run(self.prepare(folder), self.places_in(folder), environment, most_bytes)
 
     def outcome(self, folder, environment):
         """What a run gave, and what is in its outputs, which held OLD before, and its inputs afterwards."""

@@ -1,4 +1,4 @@
-//! The four commands over files. Each opens the files that its arguments name and makes the run; `main` calls them.
+//! The commands over files. Each opens the files that its arguments name and makes the run; `main` calls them.
 ghost use Rattle.std.specs.Prelude.{◌≡◌, ◌≤◌};
 ghost use Rattle.mapf_model.specs.Limits.{most_agents, most_splits};
 
@@ -6,8 +6,8 @@ use crate::outputs;
 use crate::outputs::{Place, Unsolved, identity_of, store};
 use crate::progress::Progress;
 use mapf_app::{
-    Answered, Asked, Fault, Input, Output, Search, Verdict, run_check, run_dispatch, run_play,
-    run_solve_by,
+    Answered, Asked, Fault, Input, Output, Search, Verdict, run_check, run_dispatch, run_follow,
+    run_play, run_solve_by,
 };
 use mapf_model::{ReadSource, WriteSink};
 use std::fs;
@@ -167,6 +167,25 @@ pub fn dispatch(
         problem.k,
         &mut ReadSource::of(plan),
         &mut ReadSource::of(events),
+        &mut WriteSink::of(rt.stdout()),
+    )
+}
+
+/// Answers the requests that come on standard input, of agents that follow the plan of a plan text, for the problem in
+/// two other files. Each answer goes to standard output before the next request is read.
+pub fn follow(rt: &HostRuntime, problem: ProblemFiles, plan: &str) -> Result<(), Fault>
+    requires some { 1 ≤ problem.k }
+    requires few { problem.k ≤ most_agents }
+{
+    let (map, scen) = problem.open(rt)?;
+    let plan = open(rt, plan, Input::Plan)?;
+    run_follow(
+        rt.alloc(),
+        &mut ReadSource::of(map),
+        &mut ReadSource::of(scen),
+        problem.k,
+        &mut ReadSource::of(plan),
+        &mut ReadSource::of(rt.stdin()),
         &mut WriteSink::of(rt.stdout()),
     )
 }

@@ -80,6 +80,12 @@ fn path_of<'a>(job: &'a Job, fault: &Fault) -> Option<&'a str> {
             scen,
             plan,
             ..
+        }
+        | Job::Follow {
+            map,
+            scen,
+            plan,
+            ..
         } => (map, scen, plan, None, None),
         Job::Dispatch {
             map,

@@ -142,6 +142,11 @@ fn run(rt: &HostRuntime, job: &Job) -> ExitCode
             job,
             &files::dispatch(rt, ProblemFiles { map, scen, k: *k }, plan, events),
         ),
+        Job::Follow { map, scen, k, plan } => words::ended(
+            rt,
+            job,
+            &files::follow(rt, ProblemFiles { map, scen, k: *k }, plan),
+        ),
         Job::Explain { line } => words::explained(rt, line),
     }
 }

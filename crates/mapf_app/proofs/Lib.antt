@@ -6,3 +6,4 @@ pub mod LineLemmas
 pub mod PlannedLemmas
 pub mod PrintLemmas
 pub mod SolveLemmas
+pub mod FollowedLemmas

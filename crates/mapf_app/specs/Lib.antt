@@ -6,6 +6,7 @@ pub mod Order
 pub mod Played
 pub mod Planned
 pub mod Dispatched
+pub mod Followed
 pub mod Problems
 pub mod Solved
 pub mod Told

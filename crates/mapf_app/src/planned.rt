@@ -1,4 +1,4 @@
-//! How the runs of `play` and `dispatch` read what they share: a problem, and a valid plan for it.
+//! How the runs of `play`, `dispatch` and `follow` read what they share: a problem, and a valid plan for it.
 ghost use Rattle.std.specs.Prelude.{◌≡◌, ◌≤◌, ◌⊎◌, ℕ, List, Ok, Err, false, IfOk, IfErr, OnOk};
 ghost use Rattle.std.specs.Result.{IsErrAnd};
 ghost use Rattle.mapf_app.specs.Faults.{HasNoInnerMemory, IsOfInput, IsOfMap, IsOfProblem, IsPlanning, IsReadingPlan};

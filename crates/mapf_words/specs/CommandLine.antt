@@ -67,6 +67,10 @@ dispatch_command =
     with_rule (with_rule (command_on (codes "dispatch")) (file_argument (codes "PLAN")))
     (file_argument (codes "EVENTS"))
 
+-- `follow MAP SCEN K PLAN`
+abbrev pub follow_command : App
+follow_command = with_rule (command_on (codes "follow")) (file_argument (codes "PLAN"))
+
 -- `explain LINE`
 abbrev pub explain_command : App
 explain_command = with_rule (new_app (codes "explain")) (file_argument (codes "LINE"))
@@ -77,11 +81,12 @@ program =
     let new = new_app (codes "mapf") in
     record new { top = record new.top { has_version = true; subcommand_required = true } }
 
--- the program with its five commands
+-- the program with its six commands
 abbrev pub mapf_command : App
 mapf_command =
-    with_subcommand (with_subcommand (with_subcommand (with_subcommand (with_subcommand program solve_command.top)
-    check_command.top) play_command.top) dispatch_command.top) explain_command.top
+    with_subcommand (with_subcommand (with_subcommand (with_subcommand (with_subcommand (with_subcommand program
+    solve_command.top) check_command.top) play_command.top) dispatch_command.top) follow_command.top)
+    explain_command.top
 
 -- `clap` accepts these words, of which the first is the program's name, and this is the job of the command and the
 -- arguments that it finds

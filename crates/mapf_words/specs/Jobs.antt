@@ -7,7 +7,7 @@ use Rattle.clap.specs.declared.parser.matches.Found.{Found}
 use Rattle.mapf_model.specs.Limits.{most_agents, most_splits}
 use Rattle.mapf_words.specs.declared.job.Job.{Job}
 use Rattle.mapf_words.specs.declared.job.Job.TheVariants.{Demo, Solve, SolveBy, SolveInJson, Check, CheckInJson}
-use Rattle.mapf_words.specs.declared.job.Job.TheVariants.{Play, Dispatch, Explain}
+use Rattle.mapf_words.specs.declared.job.Job.TheVariants.{Play, Dispatch, Follow, Explain}
 use Rattle.mapf_words.specs.declared.job.Search.{Search}
 use Rattle.mapf_words.specs.declared.job.Search.TheVariants.{Cbs, Cbsh}
 
@@ -31,6 +31,7 @@ IsInRange (Check map scen k plan cert) = (1 ≤ k) × (k ≤ most_agents)
 IsInRange (CheckInJson map scen k plan cert) = (1 ≤ k) × (k ≤ most_agents)
 IsInRange (Play map scen k plan) = (1 ≤ k) × (k ≤ most_agents)
 IsInRange (Dispatch map scen k plan events) = (1 ≤ k) × (k ≤ most_agents)
+IsInRange (Follow map scen k plan) = (1 ≤ k) × (k ≤ most_agents)
 IsInRange (Explain line) = ⊤
 
 -- two names of files differ, or both are the null device's, where what is written is discarded
@@ -56,6 +57,7 @@ HasOwnOutputs (Check map scen k plan cert) = ⊤
 HasOwnOutputs (CheckInJson map scen k plan cert) = ⊤
 HasOwnOutputs (Play map scen k plan) = ⊤
 HasOwnOutputs (Dispatch map scen k plan events) = ⊤
+HasOwnOutputs (Follow map scen k plan) = ⊤
 HasOwnOutputs (Explain line) = ⊤
 
 -- the first value of the argument of that name, or the empty text if it has none
@@ -136,5 +138,9 @@ IsJobOf command found (Dispatch map scen k plan events) =
     (command ≡ codes "dispatch") × (string_bytes map ≡ named found (codes "MAP"))
     × (string_bytes scen ≡ named found (codes "SCEN")) × IsNumberOf found (codes "K") k
     × (string_bytes plan ≡ named found (codes "PLAN")) × (string_bytes events ≡ named found (codes "EVENTS"))
+IsJobOf command found (Follow map scen k plan) =
+    (command ≡ codes "follow") × (string_bytes map ≡ named found (codes "MAP"))
+    × (string_bytes scen ≡ named found (codes "SCEN")) × IsNumberOf found (codes "K") k
+    × (string_bytes plan ≡ named found (codes "PLAN"))
 IsJobOf command found (Explain line) =
     (command ≡ codes "explain") × (string_bytes line ≡ named found (codes "LINE"))

@@ -2,7 +2,7 @@
 ghost use Rattle.std.specs.Prelude.{◌≡◌, codes, false, IfOk};
 ghost use Rattle.clap.specs.Words.{app_of, rule_of};
 ghost use Rattle.mapf_words.specs.CommandLine.{IsCommand, check_command, dispatch_command, explain_command};
-ghost use Rattle.mapf_words.specs.CommandLine.{file_argument, flag_argument};
+ghost use Rattle.mapf_words.specs.CommandLine.{file_argument, flag_argument, follow_command};
 ghost use Rattle.mapf_words.specs.CommandLine.{mapf_command, number_argument, number_option, option_argument};
 ghost use Rattle.mapf_words.specs.CommandLine.{play_command, program, solve_command};
 ghost use Rattle.mapf_words.specs.Jobs.{most_improvements};
@@ -16,7 +16,7 @@ use std::alloc::{AllocError, Global};
 const ABOUT: &str =
     "Solves multi-agent path finding on four-connected grids: finds a plan with the least sum of
 costs, and writes a certificate which shows that no valid plan costs less. It also checks
-certificates, shows plans tick by tick, dispatches agents along a plan, and explains what it prints.
+certificates, shows plans tick by tick, leads agents along a plan, and explains what it prints.
 Without arguments it solves and checks a small built-in problem.";
 
 // The program's version, and below it those of the texts. Both are defined here only.
@@ -28,7 +28,7 @@ const OVERVIEW: &str = "Files:
   MAP     the grid: a MovingAI map of type octile
   SCEN    the agents: a MovingAI scenario of version 1, of which the first K rows count
   PLAN    the plan text, and CERT its certificate: solve writes both, check reads both, and
-          play and dispatch read PLAN
+          play, dispatch and follow read PLAN
   EVENTS  the agents that ask to go on, one after another: dispatch reads it
 
 Examples:
@@ -36,15 +36,16 @@ Examples:
   mapf check grid.map agents.scen 5 plan.txt cert.txt
   mapf play grid.map agents.scen 5 plan.txt
   mapf dispatch grid.map agents.scen 5 plan.txt events.txt
+  mapf follow grid.map agents.scen 5 plan.txt
   mapf explain 'F2 S7 32'
 
 Standard output of solve is one line, such as 'cost 5', of check one line, such as 'optimal 5', of
-play the grid at each tick, of dispatch a reply to each event, such as 'go 1 1,1', of explain a
-line in words, and without arguments the plan text, the certificate and the verdict of the built-in
-problem.
+play the grid at each tick, of dispatch a reply to each event, such as 'go 1 1,1', of follow one to
+each request on standard input, as it comes, of explain a line in words, and without arguments the
+plan text, the certificate and the verdict of the built-in problem.
 
 Exit status:
-  0  solved, accepted, shown, dispatched, or explained
+  0  solved, accepted, shown, dispatched, followed, or explained
   1  check refused the plan text or the certificate
   2  an error or a usage error, with a message on standard error
   3  solve found that no plan is valid
@@ -142,6 +143,35 @@ Example:
 
 Exit status:
   0  dispatched
+  2  an error or a usage error, with a message on standard error";
+
+const FOLLOW_ABOUT: &str =
+    "Tells agents that follow a valid plan whether they may go on, while their requests come";
+
+const FOLLOW_OUTPUT: &str =
+    "Standard input has a line 'mapf-events 1', and then one request a line. Each request is answered by
+one line on standard output before mapf reads on:
+  I        agent I, 0 to K-1, asks to go on: the answer is 'go I x,y', 'hold I by J' or 'done I', as
+           dispatch gives it
+  status   the answer is 'cycle', and then the numbers of the agents that stand in full cycles:
+           cycles of agents of which each is held by the next, so that all of them wait for ever
+  end      there are no more requests; the end of the input between two lines is the same
+
+Any other line is no request, and changes nothing. Its answer is one of:
+  error E1 LINE  this line of standard input is no request, and changes nothing
+  error E3 LINE  it is the number of no agent
+
+An agent counts as being in the next cell as soon as 'go' is printed: let no agent ask until this
+agent has arrived. Then, whatever is asked, no two agents are ever in one cell.
+
+Standard output is empty if PLAN can't be followed, or if the first line isn't that title (F3).
+
+Example:
+  mapf follow grid.map agents.scen 5 plan.txt
+    answers each line of standard input, such as '1', by a line such as 'go 1 1,1'
+
+Exit status:
+  0  followed
   2  an error or a usage error, with a message on standard error";
 
 const EXPLAIN_ABOUT: &str = "Says in words what a line means that mapf prints";
@@ -286,6 +316,18 @@ fn dispatch<'a>(alloc: Global) -> Result<Command<'a>, AllocError>
         ))
 }
 
+fn follow<'a>(alloc: Global) -> Result<Command<'a>, AllocError>
+    ensures { IfOk result (IsCommand follow_command) }
+{
+    Command::new(alloc, "follow")
+        .about(FOLLOW_ABOUT)
+        .after_help(FOLLOW_OUTPUT)
+        .arg(file(alloc, "MAP", MAP))?
+        .arg(file(alloc, "SCEN", SCEN))?
+        .arg(number(alloc, "K", 1, MOST_AGENTS, K))?
+        .arg(file(alloc, "PLAN", "The plan text, as solve wrote it"))
+}
+
 fn explain<'a>(alloc: Global) -> Result<Command<'a>, AllocError>
     ensures { IfOk result (IsCommand explain_command) }
 {
@@ -316,5 +358,6 @@ pub fn mapf<'a>(alloc: Global) -> Result<Command<'a>, AllocError>
         .subcommand(check(alloc)?)?
         .subcommand(play(alloc)?)?
         .subcommand(dispatch(alloc)?)?
+        .subcommand(follow(alloc)?)?
         .subcommand(explain(alloc)?)
 }

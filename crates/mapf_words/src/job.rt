@@ -94,6 +94,14 @@ pub enum Job {
         plan: String,
         events: String,
     },
+    /// Let the first `k` agents follow the plan of a plan text, and answer each line of standard input as it comes.
+    Follow {
+        map: String,
+        scen: String,
+        /// 1 to 200.
+        k: u32,
+        plan: String,
+    },
     /// Say in words what a line means that the program prints.
     Explain {
         line: String,

@@ -246,6 +246,19 @@ fn dispatch_of(alloc: Global, given: &ArgMatches<'_>) -> Result<Job, WordsFault>
     })
 }
 
+fn follow_of(alloc: Global, given: &ArgMatches<'_>) -> Result<Job, WordsFault>
+    ensures range { IfOk result IsInRange }
+    ensures named { IfOk result (IsJobOf (codes "follow") (found_of given.now)) }
+    ensures own { IfOk result HasOwnOutputs }
+{
+    Ok(Job::Follow {
+        map: text_of(alloc, given, "MAP")?,
+        scen: text_of(alloc, given, "SCEN")?,
+        k: number_of(alloc, given, "K", 1, MOST_AGENTS)?,
+        plan: text_of(alloc, given, "PLAN")?,
+    })
+}
+
 fn explain_of(alloc: Global, given: &ArgMatches<'_>) -> Result<Job, WordsFault>
     ensures range { IfOk result IsInRange }
     ensures named { IfOk result (IsJobOf (codes "explain") (found_of given.now)) }
@@ -267,6 +280,7 @@ fn job_in(alloc: Global, command: &str, given: &ArgMatches<'_>) -> Result<Job, W
         "check" => check_of(alloc, given),
         "play" => play_of(alloc, given),
         "dispatch" => dispatch_of(alloc, given),
+        "follow" => follow_of(alloc, given),
         "explain" => explain_of(alloc, given),
         _ => Err(WordsFault::Bad(String::from_str(alloc, "error: no such command\n")?)),
     }
