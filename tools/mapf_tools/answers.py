@@ -8,6 +8,7 @@ lacam   the logs of LaCAM and PIBT: lines `name=value`, among them `solution=`, 
 yaml    the schedules of libMultiRobotPlanning, which schedules.py reads
 moves   lines of moves, and
 json    plans in JSON, both of which moves.py reads
+replies logs of `mapf follow` and `mapf dispatch`, which replies.py reads
 plan    plan texts of mapf
 """
 
@@ -20,10 +21,12 @@ from pathlib import Path
 from .moves import LINE, read_json, read_moves
 from .plans import Cell, cut_waits
 from .process import ToolError
+from .replies import LINE as REPLY
+from .replies import read_replies
 from .schedules import read_schedule
 from .texts import Cells, Text, plan_text, read_bytes, read_plan, shortened
 
-FORMATS = "paths", "lacam", "yaml", "moves", "json", "plan"
+FORMATS = "paths", "lacam", "yaml", "moves", "json", "replies", "plan"
 
 CELL = r"\((-?[0-9]{1,10}),(-?[0-9]{1,10})\)"
 AGENT = re.compile(r"\s*Agent\s+([0-9]{1,10})\s*:(.*)")
@@ -31,7 +34,7 @@ TICK_0 = r"\s*0\s*:\s*\("
 
 # How the first line of each format begins.
 BEGINNINGS = {"paths": AGENT.pattern, "lacam": rf"\w+=|{TICK_0}", "yaml": r"\w+:", "moves": LINE, "json": r"\s*[\[{]",
-              "plan": "mapf-plan "}
+              "replies": REPLY, "plan": "mapf-plan "}
 
 
 def add_options(parser: argparse.ArgumentParser) -> None:
@@ -196,4 +199,4 @@ def read_own(path: str | Path, data: bytes) -> dict[int, list[Cell]]:
 
 
 READERS = {"paths": read_paths, "lacam": read_lacam, "yaml": read_schedule}
-READERS_OF_MOVES = {"moves": read_moves, "json": read_json}
+READERS_OF_MOVES = {"moves": read_moves, "json": read_json, "replies": read_replies}

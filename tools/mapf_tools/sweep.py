@@ -17,6 +17,26 @@ With --beside the plots show other solvers or searches too. Their tables need th
 With --gap it asks instead how far the plans of --search cbsh may be from the cheapest: each scenario is tried with each
 number of agents, for the first plan, the quick answer and the answer after so many seconds.
 
+The columns of results.csv:
+  map, scenario, agents, search
+      what was solved, and by which search
+  status
+      solved; limit, time-out, impossible; killed or failed, if the program ended so; refused or unchecked, if check
+      refused or gave no answer; no map, no agents, if the scenario couldn't be tried
+  cost, makespan, splits, certificate_bytes
+      of the answer; the makespan is the last tick at which an agent arrives; the splits are those of a limit answer,
+      else those in the certificate, which cbsh cuts; a limit answer without a plan has no cost and no makespan
+  bound
+      no valid plan costs less
+  verdict, note
+      the line of check; the message, if something went wrong, or the answer of cbsh was refused
+  solve_seconds, check_seconds
+      processor time
+  solve_kb, check_kb
+      peak memory; below 8 MB it is that of the process that starts the runs
+  first_seconds, first_cost, first_bound, quick_seconds, quick_cost, quick_bound
+      with --gap: processor time, cost and bound of the first plan and of the quick answer
+
 Ends with status 0; 1 where a run failed, was killed, or its answer wasn't confirmed, which results.csv tells; 2 with a
 fault that has to be mended first; 130 where it was stopped.
 

@@ -54,6 +54,7 @@ The formats, which the first line tells:
   moves  for each agent a line of moves:                     rrdw  or  R,R,D,W, where w is a wait
   json   a list of paths of cells [x, y], a schedule as in yaml, or what the League of Robot Runners writes: its
          'actualPaths', of the action model MAPF
+  replies  what mapf follow or mapf dispatch printed, of which each line 'go I x,y' moves agent I
   plan   the plan texts of mapf
 
 ANSWER may be a folder. Then each file in it is an answer to the problem, and each line begins with the file's name. A

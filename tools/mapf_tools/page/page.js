@@ -386,7 +386,8 @@ function tellPlan() {
   element("name").textContent = data.plan;
   element("problem").textContent = `${data.map}, ${data.width} × ${data.height}; ${data.scenario}, ${count}`;
   const verdict = document.createElement("li");
-  verdict.textContent = faults.length > 0 ? `✗ not valid, ${counted()}` : data.noFault ?? "✓ valid";
+  const how = data.noFault ? " (not proved)" : "";
+  verdict.textContent = faults.length > 0 ? `✗ not valid, ${counted()}${how}` : data.noFault ?? "✓ valid";
   verdict.className = faults.length > 0 ? "bad" : data.noFault ? "" : "good";
   element("sums").append(numbered("sum of costs", data.cost), numbered("last tick", lastTick), verdict);
   const size = `${data.width} columns and ${data.height} rows`;
