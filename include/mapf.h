@@ -1,4 +1,5 @@
-/* The calls of mapf for C and C++: solve a problem of multi-agent path finding, and check a plan with its certificate.
+/* The calls of mapf for C and C++: solve a problem of multi-agent path finding, check a plan with its certificate,
+   judge a plan alone, and let agents follow a plan.
 
    Texts. A text is given as a pointer and a length in bytes, and need not end with a 0. The pointer is never null, also
    where the length is 0. What the texts are is said in docs/FORMATS.md. A map, a scenario and a plan text have at most
@@ -7,13 +8,15 @@
    Buffers. Answers that are texts go into buffers of the caller's, which are given as texts are. A buffer overlaps no
    text and no other buffer.
 
-   Memory. A call keeps nothing, and there is nothing to be freed. It takes its memory by malloc and realloc, gives all
-   of it back by free before it returns, and answers MAPF_F6 where malloc or realloc returns null. These three have to
-   belong together, and blocks have to begin at multiples of 16, as those of every C library do.
+   Memory. A dispatcher has to be freed, and nothing else: all other calls keep nothing. A call takes its memory by
+   malloc and realloc, gives it back by free before it returns, and answers MAPF_F6 where malloc or realloc returns
+   null. These three have to belong together, and blocks have to begin at multiples of 16, as those of every C library
+   do.
 
-   Threads. Any calls may run in several threads at once, as long as no buffer of one is a text or a buffer of another.
-   A call shares nothing with another one, opens no file, prints nothing and never ends the process. Don't call from a
-   handler of signals, nor in the child of a fork of a process with threads.
+   Threads. Any calls may run in several threads at once, as long as no buffer of one is a text or a buffer of another,
+   and each dispatcher stays in the thread that made it. A call shares nothing with another one, opens no file, prints
+   nothing and never ends the process. Don't call from a handler of signals, nor in the child of a fork of a process
+   with threads.
 
    Units. Agents, rows of the grid and rows of the scenario are counted from 0, columns and ticks too, lines of a text
    from 1. Costs and bounds are in ticks: the cost of a plan is the sum, over its agents, of the tick of the last arrival
@@ -61,6 +64,9 @@ extern "C" {
 #define MAPF_SCEN 602u
 #define MAPF_PLAN 603u
 #define MAPF_CERT 604u
+/* Or why a plan text has no plan to judge: it says that there is none, or is for another number of agents. */
+#define MAPF_NO_PLAN 605u
+#define MAPF_OTHER_COUNT 606u
 
 /* An error or a refusal. `count` says how many of the three numbers there are, 0 to 3, and the others are 0:
 
@@ -85,6 +91,7 @@ typedef struct mapf_fault {
 #define MAPF_WITHIN 2u     /* a valid plan costs `cost`, and none costs less than `bound`, which is smaller */
 #define MAPF_BOUND 3u      /* there is no plan here, and no valid plan costs less than `bound` */
 #define MAPF_IMPOSSIBLE 4u /* no plan is valid */
+#define MAPF_VALID 5u      /* the plan is valid and costs `cost`; another one may cost less */
 
 /* mapf_answer.cause: why a search answers MAPF_BOUND. 0 for all other answers. */
 #define MAPF_SPLITS 1u /* its splits are used up */
@@ -121,6 +128,34 @@ typedef struct mapf_solution {
     size_t cert_length;  /* bytes of the certificate, 0 if there is no answer */
 } mapf_solution;
 
+/* A dispatcher, or none. It is none if all its bytes are 0. Only the calls below change it. It may be copied, but then
+   only one of the copies is used from then on. */
+typedef struct mapf_dispatcher {
+    void *kept;
+    uint32_t is_made; /* 1 if there is a dispatcher, else 0 */
+} mapf_dispatcher;
+
+/* mapf_reply.kind, beside MAPF_RANGE, which says that this isn't an agent. */
+#define MAPF_GO 1u   /* the agent moves to the cell `number`, its next one, and is there from now on */
+#define MAPF_HOLD 2u /* it waits for the agent `number`, and may ask again later */
+#define MAPF_DONE 3u /* it is at the end of its path and stays there */
+
+/* A reply to an agent that asks to move on. A cell is told by its number: its row times the width of the map, and its
+   column. `number` is 0 where there is none. */
+typedef struct mapf_reply {
+    uint32_t kind;
+    uint32_t number;
+} mapf_reply;
+
+/* A visit of an agent: its cell, by its number, and the tick of the plan at which the agent enters it. `count` says how
+   many visits the agent has, 0 if it isn't one. The other two are 0 if it has no visit of the number that was asked
+   for. */
+typedef struct mapf_visit {
+    uint32_t count;
+    uint32_t cell;
+    uint32_t entry;
+} mapf_visit;
+
 /* Returns the version of the library, which is MAPF_VERSION of the header that belongs to it. */
 uint32_t mapf_version(void);
 
@@ -131,6 +166,14 @@ uint32_t mapf_version(void);
    out. That the error is the first one, and the line of C6 to C10, is tested. */
 mapf_answer mapf_check(const char *map, size_t map_length, const char *scen, size_t scen_length, uint32_t agents,
                        const char *plan, size_t plan_length, const char *cert, size_t cert_length);
+
+/* Judges the plan of a plan text alone, for the problem of the first `agents` agents (1 to 200) of a scenario: it is
+   valid, or has the error that MAPF_F3 tells.
+
+   Proved: a plan is found valid if and only if it is, unless a text is too long or memory runs out; `cost` is its sum
+   of costs; and an error is one that the texts have. That it is the first one is tested. */
+mapf_answer mapf_validate(const char *map, size_t map_length, const char *scen, size_t scen_length, uint32_t agents,
+                          const char *plan, size_t plan_length);
 
 /* Solves the problem of the first agents of a scenario, and writes a plan text, in version 2, and a certificate, in
    version 2 or, by MAPF_CBSH, 3. Nothing but `limit` bounds the time and the memory that a search takes.
@@ -144,6 +187,33 @@ mapf_answer mapf_check(const char *map, size_t map_length, const char *scen, siz
    tested. */
 mapf_solution mapf_solve(const char *map, size_t map_length, const char *scen, size_t scen_length,
                          mapf_question question, char *plan, size_t plan_room, char *cert, size_t cert_room);
+
+/* Makes a dispatcher of the plan of a plan text, for the problem of the first `agents` agents (1 to 200) of a scenario.
+   Each agent begins in its first visit. Returns an error that is all 0, or why there is no dispatcher. The place for it
+   has all its bytes 0, or a dispatcher, which is freed first. A new one is freed by mapf_dispatcher_free.
+
+   Proved: the plan is valid; each valid plan gets a dispatcher, unless a text is too long or memory runs out; and an
+   error is one that the texts have. */
+mapf_fault mapf_dispatcher_new(mapf_dispatcher *dispatcher, const char *map, size_t map_length, const char *scen,
+                               size_t scen_length, uint32_t agents, const char *plan, size_t plan_length);
+
+/* Lets `count` agents, counted from 0, ask one after another to move on, and puts their replies into a buffer of
+   `room` replies. Returns how many were answered: `count`, or 0 if there is no dispatcher or the buffer is too short.
+   Then nothing changes. It takes no memory, which is tested.
+
+   Proved: each reply is the one that the program's `dispatch` gives, so agents keep the plan's order at each cell. One
+   that isn't an agent is told MAPF_RANGE and changes nothing. */
+size_t mapf_dispatcher_ask(mapf_dispatcher *dispatcher, const uint32_t *agents, size_t count, mapf_reply *replies,
+                           size_t room);
+
+/* Returns how many visits an agent has, and its visit of this number, both counted from 0. It takes no memory, which is
+   tested.
+
+   Proved: the visit is the one of the plan's path, and nothing changes. */
+mapf_visit mapf_dispatcher_visit(mapf_dispatcher *dispatcher, uint32_t agent, uint32_t number);
+
+/* Gives the memory of a dispatcher back, if there is one. Proved: there is none afterwards. */
+void mapf_dispatcher_free(mapf_dispatcher *dispatcher);
 
 #ifdef __cplusplus
 }

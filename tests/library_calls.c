@@ -3,6 +3,10 @@
 
      library_calls version
      library_calls check MAP SCEN K PLAN CERT
+     library_calls validate MAP SCEN K PLAN
+     library_calls dispatch MAP SCEN K PLAN EVENTS                     prints the replies to the agents that ask
+     library_calls visits MAP SCEN K PLAN                              prints the visits of all agents
+     library_calls asks MAP SCEN K PLAN COUNT STEP                     lets agents ask, STEP of them in each call
      library_calls solve SEARCH IMPROVE MAP SCEN K LIMIT PLAN CERT     writes the two texts
      library_calls rooms SEARCH IMPROVE MAP SCEN K LIMIT               tries buffers of other sizes
      library_calls wrong                                               tries numbers that are out of their ranges
@@ -111,7 +115,7 @@ static void say(const char *format, ...) {
 
 /* The letter of each hundred of a defect. */
 static void say_defect(uint32_t defect) {
-    static const char *const names[] = {"map", "scen", "plan", "cert"};
+    static const char *const names[] = {"map", "scen", "plan", "cert", "none", "count"};
     if (defect >= MAPF_MAP) {
         say(" %s", names[defect - MAPF_MAP]);
     } else if (defect != 0) {
@@ -173,6 +177,9 @@ static void say_answer(const mapf_answer *answer, const char *found, const uint3
     case MAPF_IMPOSSIBLE:
         say("impossible\n");
         break;
+    case MAPF_VALID:
+        say(bound == 0 ? "valid %llu\n" : "valid %llu, with a bound\n", cost);
+        break;
     default:
         fail("an answer of no kind");
     }
@@ -191,6 +198,198 @@ static void run_check(char **words) {
     release(scen.bytes);
     release(plan.bytes);
     release(cert.bytes);
+}
+
+static void run_validate(char **words) {
+    text map = text_of(words[0]), scen = text_of(words[1]), plan = text_of(words[3]);
+    mapf_answer answer = mapf_validate(map.bytes, map.length, scen.bytes, scen.length, number_of(words[2]), plan.bytes,
+                                       plan.length);
+    say_answer(&answer, "optimal", NULL);
+    release(map.bytes);
+    release(scen.bytes);
+    release(plan.bytes);
+}
+
+/* Fails unless so many bytes from this place on are as they were before a call. */
+static void expect_filled(const char *room, size_t from, size_t to) {
+    for (; from < to; from++) {
+        if (room[from] != FILL) {
+            fail("a byte was written that isn't one of the answer's");
+        }
+    }
+}
+
+/* The number behind a word in a text. */
+static uint32_t number_behind(const text *of, const char *word) {
+    char front[200];
+    const char *found;
+    size_t length = of->length < sizeof front - 1 ? of->length : sizeof front - 1;
+    memcpy(front, of->bytes, length);
+    front[length] = 0;
+    found = strstr(front, word);
+    return found == NULL ? 0 : number_of(found + strlen(word));
+}
+
+/* A dispatcher with the error that was told. */
+typedef struct made {
+    mapf_dispatcher dispatcher;
+    mapf_fault fault;
+} made;
+
+static made made_of(char **words, uint32_t *width) {
+    text map = text_of(words[0]), scen = text_of(words[1]), plan = text_of(words[3]);
+    made found = {{NULL, 0}, {0, 0, 0, 0, 0, 0}};
+    found.fault = mapf_dispatcher_new(&found.dispatcher, map.bytes, map.length, scen.bytes, scen.length,
+                                      number_of(words[2]), plan.bytes, plan.length);
+    *width = number_behind(&map, "width ");
+    if (is_no_fault(&found.fault) != (found.dispatcher.is_made == 1)) {
+        fail("a dispatcher beside an error, or neither");
+    }
+    release(map.bytes);
+    release(scen.bytes);
+    release(plan.bytes);
+    return found;
+}
+
+/* The agents that ask by an event text, which is right. */
+static uint32_t *agents_of(const text *events, size_t *count) {
+    uint32_t *agents;
+    size_t at, line = 0;
+    *count = 0;
+    for (at = 0; at < events->length; at++) {
+        line += events->bytes[at] == '\n';
+    }
+    agents = (uint32_t *)(void *)room_of((line < 2 ? 0 : line - 2) * sizeof *agents);
+    for (at = 0; at < events->length && *count + 2 < line; at++) {
+        if (events->bytes[at] == '\n') {
+            agents[(*count)++] = number_of(events->bytes + at + 1);
+        }
+    }
+    return agents;
+}
+
+static void say_reply(uint32_t agent, const mapf_reply *reply, uint32_t width) {
+    if (reply->kind == MAPF_GO) {
+        say("go %u %u,%u\n", (unsigned)agent, (unsigned)(reply->number % width), (unsigned)(reply->number / width));
+    } else if (reply->kind == MAPF_HOLD) {
+        say("hold %u by %u\n", (unsigned)agent, (unsigned)reply->number);
+    } else if (reply->kind == MAPF_DONE && reply->number == 0) {
+        say("done %u\n", (unsigned)agent);
+    } else {
+        fail("a reply of no kind");
+    }
+}
+
+/* Whoever isn't an agent is told so, and a buffer that is too short by one gets nothing. */
+static void try_no_replies(mapf_dispatcher *dispatcher, const uint32_t *agents, size_t count, mapf_reply *replies) {
+    const uint32_t other = 4294967295u;
+    mapf_reply reply = {0, 1};
+    if (count > 0 && mapf_dispatcher_ask(dispatcher, agents, count, replies, count - 1) != 0) {
+        fail("a buffer that is too short is filled");
+    }
+    if (count > 0) {
+        expect_filled((const char *)replies, 0, count * sizeof *replies);
+    }
+    if (mapf_dispatcher_ask(dispatcher, &other, 1, &reply, 1) != 1 || reply.kind != MAPF_RANGE || reply.number != 0) {
+        fail("an agent that isn't there gets a reply");
+    }
+    if (mapf_dispatcher_visit(dispatcher, other, 0).count != 0) {
+        fail("an agent that isn't there has visits");
+    }
+}
+
+static void try_freed(mapf_dispatcher *dispatcher) {
+    const uint32_t agent = 0;
+    mapf_reply reply = {0, 0};
+    mapf_dispatcher_free(dispatcher);
+    mapf_dispatcher_free(dispatcher);
+    if (mapf_dispatcher_ask(dispatcher, &agent, 1, &reply, 1) != 0) {
+        fail("a dispatcher that was freed replies");
+    }
+    if (mapf_dispatcher_visit(dispatcher, 0, 0).count != 0) {
+        fail("a dispatcher that was freed has visits");
+    }
+}
+
+/* Has agents ask one dispatcher in one call, and another one in a call for each. */
+static void try_replies(made *all, made *each, const uint32_t *agents, size_t count, uint32_t width) {
+    mapf_reply *replies = (mapf_reply *)(void *)room_of(count * sizeof *replies), alone;
+    size_t at;
+    try_no_replies(&all->dispatcher, agents, count, replies);
+    if (mapf_dispatcher_ask(&all->dispatcher, agents, count, replies, count) != count) {
+        fail("agents that ask aren't answered");
+    }
+    for (at = 0; at < count; at++) {
+        if (mapf_dispatcher_ask(&each->dispatcher, agents + at, 1, &alone, 1) != 1 ||
+            alone.kind != replies[at].kind || alone.number != replies[at].number) {
+            fail("an agent that asks alone gets another reply");
+        }
+        say_reply(agents[at], replies + at, width);
+    }
+    release((char *)replies);
+}
+
+static void run_dispatch(char **words) {
+    text events = text_of(words[4]);
+    size_t count;
+    uint32_t width, *agents = agents_of(&events, &count);
+    made first = made_of(words, &width), second = made_of(words, &width);
+    if (first.dispatcher.is_made == 0 || second.dispatcher.is_made == 0) {
+        say_fault(first.dispatcher.is_made == 0 ? &first.fault : &second.fault);
+    } else {
+        try_replies(&first, &second, agents, count, width);
+    }
+    try_freed(&first.dispatcher);
+    try_freed(&second.dispatcher);
+    release(events.bytes);
+    release((char *)agents);
+}
+
+static void run_visits(char **words) {
+    uint32_t width, agent, number, count = number_of(words[2]);
+    made first = made_of(words, &width);
+    if (first.dispatcher.is_made == 0) {
+        say_fault(&first.fault);
+        return;
+    }
+    for (agent = 0; agent < count; agent++) {
+        mapf_visit visit = mapf_dispatcher_visit(&first.dispatcher, agent, 4294967295u);
+        if (visit.cell != 0 || visit.entry != 0) {
+            fail("a visit that isn't there has a cell");
+        }
+        for (number = 0; number < visit.count; number++) {
+            visit = mapf_dispatcher_visit(&first.dispatcher, agent, number);
+            say("%u %u,%u at %u\n", (unsigned)agent, (unsigned)(visit.cell % width), (unsigned)(visit.cell / width),
+                (unsigned)visit.entry);
+        }
+    }
+    try_freed(&first.dispatcher);
+}
+
+/* Lets agents ask in turn, so many in each call, and says how many were told to go. */
+static void run_asks(char **words) {
+    static uint32_t agents[1000];
+    static mapf_reply replies[1000];
+    uint32_t width, at, agent = 0, left = number_of(words[4]), step = number_of(words[5]);
+    unsigned gone = 0;
+    made first = made_of(words, &width);
+    while (first.dispatcher.is_made == 1 && left > 0) {
+        for (at = 0; at < step; at++) {
+            agents[at] = agent++ % number_of(words[2]);
+        }
+        if (mapf_dispatcher_ask(&first.dispatcher, agents, step, replies, step) != step) {
+            fail("agents that ask aren't answered");
+        }
+        for (at = 0; at < step; at++) {
+            gone += replies[at].kind == MAPF_GO;
+        }
+        left -= step;
+    }
+    if (agent > 0 && mapf_dispatcher_visit(&first.dispatcher, 0, 0).count == 0) {
+        fail("an agent has no visits");
+    }
+    mapf_dispatcher_free(&first.dispatcher);
+    say("%u\n", gone);
 }
 
 /* A search, and what it is given. */
@@ -214,15 +413,6 @@ static search search_of(char **words) {
 static mapf_solution solved(const search *given, char *plan, size_t plan_room, char *cert, size_t cert_room) {
     return mapf_solve(given->map.bytes, given->map.length, given->scen.bytes, given->scen.length, given->question,
                       plan, plan_room, cert, cert_room);
-}
-
-/* Fails unless so many bytes from this place on are as they were before a call. */
-static void expect_filled(const char *room, size_t from, size_t to) {
-    for (; from < to; from++) {
-        if (room[from] != FILL) {
-            fail("a byte was written that isn't one of the answer's");
-        }
-    }
 }
 
 static void run_solve(char **words) {
@@ -320,7 +510,10 @@ static void run_wrong(void) {
     }
     for (at = 0; at < sizeof counts / sizeof *counts; at++) {
         mapf_answer checked = mapf_check("", 0, "", 0, counts[at], "", 0, "", 0);
-        if (checked.fault.error != MAPF_RANGE) {
+        mapf_answer judged = mapf_validate("", 0, "", 0, counts[at], "", 0);
+        mapf_dispatcher dispatcher = {NULL, 0};
+        mapf_fault made = mapf_dispatcher_new(&dispatcher, "", 0, "", 0, counts[at], "", 0);
+        if (checked.fault.error != MAPF_RANGE || judged.fault.error != MAPF_RANGE || made.error != MAPF_RANGE) {
             fail("a number of agents out of its range is taken");
         }
     }
@@ -334,6 +527,14 @@ int main(int count, char **words) {
         say("%u %u\n", (unsigned)mapf_version(), (unsigned)MAPF_VERSION);
     } else if (strcmp(name, "check") == 0 && count == 7) {
         run_check(words + 2);
+    } else if (strcmp(name, "validate") == 0 && count == 6) {
+        run_validate(words + 2);
+    } else if (strcmp(name, "dispatch") == 0 && count == 7) {
+        run_dispatch(words + 2);
+    } else if (strcmp(name, "visits") == 0 && count == 6) {
+        run_visits(words + 2);
+    } else if (strcmp(name, "asks") == 0 && count == 8) {
+        run_asks(words + 2);
     } else if (strcmp(name, "solve") == 0 && count == 10) {
         run_solve(words + 2);
     } else if (strcmp(name, "rooms") == 0 && count == 8) {

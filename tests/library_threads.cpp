@@ -1,9 +1,10 @@
-// Has threads solve and check side by side by the library of include/mapf.h, and compares what they get with what one
-// thread gets alone.
+// Has threads solve, check, judge and follow plans side by side by the library of include/mapf.h, and compares what
+// they get with what one thread gets alone.
 //
 //   library_threads MAP SCEN K LIMIT
 #include "mapf.h"
 
+#include <algorithm>
 #include <atomic>
 #include <cstdio>
 #include <cstdlib>
@@ -26,7 +27,8 @@ std::string text_of(const char *name) {
 struct Answer {
     mapf_solution solution;
     std::string plan, cert;
-    mapf_answer verdict;
+    mapf_answer verdict, validity;
+    std::vector<mapf_reply> replies;
 };
 
 bool are_same(const mapf_answer &a, const mapf_answer &b) {
@@ -34,7 +36,22 @@ bool are_same(const mapf_answer &a, const mapf_answer &b) {
         a.fault.error == b.fault.error;
 }
 
-// A search, and the check of what it wrote.
+// What agents are told that follow the plan, if there is one: in turn, as often as the longest of their paths takes.
+std::vector<mapf_reply> replies_of(const std::string &map, const std::string &scen, uint32_t count,
+                                   const std::string &plan) {
+    mapf_dispatcher dispatcher{};
+    mapf_dispatcher_new(&dispatcher, map.data(), map.size(), scen.data(), scen.size(), count, plan.data(), plan.size());
+    std::vector<uint32_t> agents;
+    for (uint32_t turn = 0; turn < 100 * count; turn++) {
+        agents.push_back(turn % count);
+    }
+    std::vector<mapf_reply> replies(agents.size());
+    replies.resize(mapf_dispatcher_ask(&dispatcher, agents.data(), agents.size(), replies.data(), replies.size()));
+    mapf_dispatcher_free(&dispatcher);
+    return replies;
+}
+
+// A search, the check of what it wrote, and what is found of its plan.
 Answer answer_of(const std::string &map, const std::string &scen, const mapf_question &question) {
     Answer found{};
     found.plan.resize(4000000);
@@ -45,12 +62,21 @@ Answer answer_of(const std::string &map, const std::string &scen, const mapf_que
     found.cert.resize(found.solution.is_written ? found.solution.cert_length : 0);
     found.verdict = mapf_check(map.data(), map.size(), scen.data(), scen.size(), question.agents, found.plan.data(),
                                found.plan.size(), found.cert.data(), found.cert.size());
+    found.validity = mapf_validate(map.data(), map.size(), scen.data(), scen.size(), question.agents, found.plan.data(),
+                                   found.plan.size());
+    found.replies = replies_of(map, scen, question.agents, found.plan);
     return found;
+}
+
+bool is_same_reply(const mapf_reply &a, const mapf_reply &b) {
+    return a.kind == b.kind && a.number == b.number;
 }
 
 bool is_same(const Answer &a, const Answer &b) {
     return are_same(a.solution.answer, b.solution.answer) && a.plan == b.plan && a.cert == b.cert &&
-        are_same(a.verdict, b.verdict);
+        are_same(a.verdict, b.verdict) && are_same(a.validity, b.validity) &&
+        a.replies.size() == b.replies.size() &&
+        std::equal(a.replies.begin(), a.replies.end(), b.replies.begin(), is_same_reply);
 }
 
 // Whether the check says of an answer what the search said.

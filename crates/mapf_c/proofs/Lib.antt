@@ -1,1 +1,3 @@
 pub mod MemoryLemmas
+pub mod AsBox
+pub mod AskingLemmas

@@ -1,16 +1,19 @@
 -- What is known of a run whose devices are memory.
-use Rattle.std.proofs.Common.{◌≡◌, ◌≢◌, ◌<◌, inl, inr, ◌++◌, ℕ, false, List, [], Option, Some, Ok, Err, Bool, IfSome, if◌then◌else◌, length, length-append, refl, sym, ap, ◌∙◌, subst, arith}
+use Rattle.std.proofs.Common.{◌≡◌, ◌≢◌, ◌<◌, ◌⊎◌, ⊎_elim, inl, inr, ◌++◌, ℕ, false, List, [], Option, Some, Result, Ok, Err, Bool, IfSome, if◌then◌else◌, length, length-append, refl, sym, ap, ◌∙◌, subst, arith}
 use Rattle.std.specs.Option.{IsSome}
+use Rattle.std.specs.Result.{IsErrAnd}
 use Rattle.mapf_app.specs.Answered.{IsLimitedBy, IsOfPlainSearch, answering}
 use Rattle.mapf_app.specs.Checked.{HasNoCheckMemory}
-use Rattle.mapf_app.specs.Faults.{IsOfDevices, IsSolving}
+use Rattle.mapf_app.specs.Faults.{IsOfDevices, IsOfInput, IsSolving}
 use Rattle.mapf_app.specs.Headline.{PrintsTruly}
+use Rattle.mapf_app.specs.Planned.{IsDuePlan}
 use Rattle.mapf_app.specs.Policy.{PrintsByPolicy}
 use Rattle.mapf_app.specs.Problems.{SpellsProblem}
 use Rattle.mapf_app.specs.Runs.{IsUnreadable, ReportsSource, WritesTexts}
 use Rattle.mapf_app.specs.declared.answer_writer.Answered.{Answered}
 use Rattle.mapf_app.specs.declared.fault.Fault.{Fault}
 use Rattle.mapf_app.specs.declared.fault.Fault.TheVariants.{F1, F2, F3, F4, F5, F6, Refused}
+use Rattle.mapf_app.specs.declared.planned.Planned.{Planned}
 use Rattle.mapf_app.specs.declared.fault.Input.TheVariants.{Map, Scen, Plan, Cert, Events}
 use Rattle.mapf_c.specs.Answers.{kind_answer, refused_numbers}
 use Rattle.mapf_c.specs.Checks.{IsReadable}
@@ -107,3 +110,11 @@ solution map scen asked answer plan cert plan_text cert_text plan_old plan_new c
   plan_put = subst (λ (b : Bool). IsPut b plan_text plan_old plan_new) fits_is plan_put;
   cert_put = subst (λ (b : Bool). IsPut b cert_text cert_old cert_new) fits_is cert_put;
 }
+
+-- an error that is returned in place of each valid plan that sources report is one of an input, if these texts spell one
+pub unplanned : (map scen plan : List ℕ) (known_map known_scen known_plan : Option (List ℕ)) (agents : ℕ) (fault : Fault) → known_map ≡ Some map → known_scen ≡ Some scen → known_plan ≡ Some plan → ((planned : Planned) → IsDuePlan known_map known_scen known_plan agents planned.problem planned.plan → (◌≡◌ {A = Result Planned Fault} (Err fault) (Ok planned)) ⊎ IsErrAnd {T = Planned} (Err fault) IsOfInput) → (problem : Instance) (paths : List (List ℕ)) → IsDuePlan (Some map) (Some scen) (Some plan) agents problem paths → IsOfInput fault
+unplanned map scen plan known_map known_scen known_plan agents fault map_is scen_is plan_is only problem paths due =
+    ⊎_elim (λ e. absurd cc) (λ is. is) (only (record { problem = problem; plan = paths })
+    (subst (λ (x : Option (List ℕ)). IsDuePlan x known_scen known_plan agents problem paths) (sym map_is)
+    (subst (λ (y : Option (List ℕ)). IsDuePlan (Some map) y known_plan agents problem paths) (sym scen_is)
+    (subst (λ (z : Option (List ℕ)). IsDuePlan (Some map) (Some scen) z agents problem paths) (sym plan_is) due))))

@@ -3,6 +3,7 @@ ghost use Rattle.std.specs.Prelude.{◌≡◌};
 ghost use Rattle.mapf_c.specs.Answers.{answered, check_answer, kind_answer, refused_numbers, unanswered, unsolved};
 ghost use Rattle.mapf_c.specs.Answers.{verdict_answer};
 ghost use Rattle.mapf_c.specs.Faults.{none};
+ghost use Rattle.mapf_c.specs.Plans.{plan_answer};
 
 use crate::numbers::{Answer, FaultNumbers, Solution};
 use mapf_app::{CheckFault, Fault, Kind, Verdict};
@@ -18,6 +19,8 @@ const WITHIN: u32 = 2;
 const BOUND: u32 = 3;
 
 const IMPOSSIBLE: u32 = 4;
+
+const VALID: u32 = 5;
 
 // The causes of a bound alone.
 const SPLITS: u32 = 1;
@@ -100,6 +103,16 @@ impl Answer {
             Verdict::Within { bound, cost } => Answer::costing(WITHIN, bound, cost),
             Verdict::Bound(bound) => Answer::bounded(0, bound),
             Verdict::Impossible => Answer::impossible(),
+        }
+    }
+
+    /// Returns the answer of a plan that is valid, with its sum of costs, or of one that isn't.
+    pub fn of_cost(ended: Result<u64, Fault>) -> Answer
+        ensures { result ≡ plan_answer ended }
+    {
+        match ended {
+            Ok(cost) => Answer::costing(VALID, 0, cost),
+            Err(fault) => Answer::unanswered(FaultNumbers::of(fault)),
         }
     }
 

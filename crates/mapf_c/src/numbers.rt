@@ -1,4 +1,6 @@
 //! The structs that cross to C. `include/mapf.h` has the same fields in the same order, under names of its own.
+ghost use Rattle.std.specs.Prelude.{◌≡◌, None};
+ghost use Rattle.mapf_c.specs.Dispatchers.{told_visit};
 
 /// An error or a refusal in numbers: `mapf_fault` of the header.
 #[repr(C)]
@@ -21,7 +23,8 @@ pub struct FaultNumbers {
 #[repr(C)]
 #[derive(Clone, Copy, Debug, PartialEq, Eq)]
 pub struct Answer {
-    /// 0 for no answer, 1 for an optimal plan, 2 for a plan within a bound, 3 for a bound alone, 4 for no valid plan.
+    /// 0 for no answer, 1 for an optimal plan, 2 for a plan within a bound, 3 for a bound alone, 4 for no valid plan,
+    /// 5 for a valid plan.
     pub kind: u32,
     /// Why a search answers a bound alone: 1 as its splits are used up, 2 as the ticks of a split are. Else 0.
     pub cause: u32,
@@ -60,4 +63,39 @@ pub struct Solution {
     pub plan_length: usize,
     /// The bytes of the certificate, 0 if there is no answer.
     pub cert_length: usize,
+}
+
+/// The reply to an agent that asks, in numbers: `mapf_reply` of the header.
+#[repr(C)]
+#[derive(Clone, Copy, Debug, PartialEq, Eq)]
+pub struct ReplyNumbers {
+    /// 1 to move on, 2 to wait, 3 if it is done, 10 if it isn't an agent.
+    pub kind: u32,
+    /// The cell to which it moves, or the agent for which it waits. Else 0.
+    pub number: u32,
+}
+
+/// A visit of an agent, in numbers: `mapf_visit` of the header.
+#[repr(C)]
+#[derive(Clone, Copy, Debug, PartialEq, Eq)]
+pub struct VisitNumbers {
+    /// How many visits the agent has. 0 if it isn't an agent.
+    pub count: u32,
+    /// The cell of this one. 0 if the agent has no visit of this number.
+    pub cell: u32,
+    /// The tick of the plan at which the agent enters it. 0 if the agent has no visit of this number.
+    pub entry: u32,
+}
+
+impl VisitNumbers {
+    /// Returns that there are so many visits, and none of the number that was asked for.
+    pub fn none(count: u32) -> VisitNumbers
+        ensures { result ≡ told_visit count None }
+    {
+        VisitNumbers {
+            count,
+            cell: 0,
+            entry: 0,
+        }
+    }
 }
