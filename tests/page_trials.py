@@ -23,6 +23,18 @@ TEXTS = "map", "scen", "plan", "cert"
 # The certificates of examples/: the name of the problem, the number of agents, and the verdict.
 HONEST = [("random-32-32", 20, "optimal 496"), ("random-32-32", 40, "optimal 990"), ("empty-8-8", 18, "within 105 106")]
 
+# The headlines of verdicts that accept.
+HEADLINES = {
+    "optimal 5": "Optimal, cost 5",
+    "within 4 5": "Valid, cost 5; every valid plan costs at least 4",
+    "bound 5": "Every valid plan costs at least 5",
+    "impossible": "No plan is valid",
+}
+
+# What is told where the certificate of the crossing is refused, and its plan isn't.
+PLAN_PROVED = ("For the first 2 agents of the scenario, the plan is valid, and its sum of costs is 5. The checker "
+               "judged it before the certificate, and this too is proved in Coq.")
+
 # How long a verdict may take, in seconds, and how long the page may need to answer while it is at work.
 SECONDS = 60
 MOST_PAUSE = 1
@@ -128,6 +140,11 @@ def verdict(browser):
     raise TimeoutError(f"no verdict after {SECONDS} seconds, {browser.value('element(`work`).innerText')}")
 
 
+def line_of(told):
+    """The checker's line of a verdict, or its title where there is no such line."""
+    return told[told.index("The checker's line") + 1] if "The checker's line" in told else told[0]
+
+
 def checked(browser, files, agents=None):
     """The verdict of these files."""
     choose(browser, files)
@@ -163,7 +180,7 @@ def judges_examples(browser, folder):
     faults = []
     for name, agents, line in HONEST:
         began = time.monotonic()
-        found = checked(browser, example(name, agents))[0]
+        found = line_of(checked(browser, example(name, agents)))
         faults += [] if found == line else [f"{name}, {agents} agents: {found}, wanted {line}"]
         faults += [] if time.monotonic() - began < SECONDS else [f"{name}, {agents} agents: it takes too long"]
     requests = [url for url in browser.requests if not url.startswith(("file:", "blob:", "data:", "about:"))]
@@ -175,12 +192,18 @@ def says_what_verdicts_mean(browser, folder):
     faults = []
     for texts, line, words in texts_with_meanings():
         title, *told = checked(browser, crossing(folder, **texts), 2)
-        found = told[told.index("The checker's line") + 1]
+        found = line_of(told)
         faults += [] if found == line else [f"{found}, wanted {line}"]
-        wanted = f"({line.split()[1]})" if "refused" in line else line
-        faults += missing(title, wanted) + missing(
-            " ".join([title, *told]), words, "Nothing is proved." if "refused" in line else "proved in Coq")
+        wanted = f"({line.split()[1]})" if "refused" in line else HEADLINES[line]
+        faults += missing(title, wanted) + missing(" ".join([title, *told]), words, what_is_proved(line))
     return faults
+
+
+def what_is_proved(line):
+    """What is told of it beside this verdict of a plan, or of another answer that is accepted."""
+    if "refused" not in line:
+        return "proved in Coq"
+    return "Nothing is proved." if line.split()[1] in ("F1", "F2", "C1", "C5") else PLAN_PROVED
 
 
 def texts_with_meanings():
@@ -198,8 +221,8 @@ def texts_with_meanings():
         ({"cert": cert.replace(b"at 0,1 0 3", b"at 0,1 0 4")}, "refused C7", "Refused: unsound label"),
         ({"cert": cert.replace(b"cost 5", b"cost 6")}, "refused C4", "doesn't fit the answer"),
         ({"plan": plan.replace(b"0,1 0,1 1,1", b"0,1 1,1 1,1")}, "refused C5", "Refused: the plan isn't valid"),
-        ({"cert": cert[:-4]}, "refused C2", "isn't of its grammar"),
-        ({"map": b"no map"}, "refused F1", "Refused: the map isn't of its format"),
+        ({"cert": cert[:-4]}, "refused C2", "isn't written as the format asks"),
+        ({"map": b"no map"}, "refused F1", "F1 means that the map isn't written as the format asks"),
     ]
 
 
@@ -241,9 +264,19 @@ def lines_of(browser, given):
 def refuses_what_is_no_number(browser, folder):
     opened(browser)
     faults = []
-    for number in ("0", "201", "9" * 20, "2x", "-1"):
-        found, *told = checked(browser, crossing(folder), number)
-        faults += missing([found, *told], "No verdict", "The number of agents isn't a number from 1 to 200.")
+    choose(browser, crossing(folder))
+    for number in ("0", "201", "9" * 20, "2x", "-1", "two", "2.0"):
+        browser.value(f"element('k').value = {json.dumps(number)}")
+        browser.click_on("#check")
+        told, focus = browser.value("[element('complaint').innerText, document.activeElement.id]")
+        is_told = told == "Give a whole number from 1 to 200." and focus == "k"
+        faults += [] if is_told and browser.value("run === null") else [f"of {number} it tells {told}, {focus}"]
+    texts = [(CROSSING / text).read_bytes() for text in TEXTS]
+    found = lines_of(browser, [["0", *texts], ["201", *texts], ["2x", *texts], ["02", *texts]])
+    wanted = ["no number of agents"] * 3 + ["optimal 5"]
+    faults += [] if found == wanted else [f"the checker says {found}"]
+    told = checked(browser, crossing(folder), "02")
+    faults += [] if told[told.index("Agents") + 1] == "2" else [f"of 02 it tells {told}"]
     browser.value("element('k').value = ' '; element('cert').value = ''")
     browser.click_on("#check")
     told = browser.value("element('complaint').innerText")
@@ -271,7 +304,7 @@ def reads_the_largest_map(browser, folder):
         "plan": b"mapf-plan 2\nagents 1\ncost 1\npath 0 1 0,0 1,0\nend\n",
         "cert": b"mapf-cert 2\nagents 1\nclaim cost 1\nleaf 0\nend\n",
     })
-    found = checked(browser, files)[0]
+    found = line_of(checked(browser, files))
     return [] if found == "optimal 1" else [f"{found}, wanted optimal 1"]
 
 
@@ -305,7 +338,7 @@ def stays_usable(browser, folder):
         told.append(browser.value("[element('step').innerText, element('bar').value, element('amount').innerText]"))
         pauses.append(time.monotonic() - before)
         time.sleep(0.05)
-    found, seconds = verdict(browser)[0], time.monotonic() - began
+    found, seconds = line_of(verdict(browser)), time.monotonic() - began
     print(f"a certificate of {size} bytes takes {seconds:.0f} s, the longest pause is {max(pauses):.2f} s", flush=True)
     faults += [] if found == "bound 1" else [f"{found}, wanted bound 1"]
     faults += [] if seconds < SECONDS else [f"it takes {seconds:.0f} s"]
@@ -328,7 +361,7 @@ def stops(browser, folder):
     found = verdict(browser)
     faults += missing(" ".join(found), "Stopped", "Nothing is proved.") + drawn(browser, False)
     faults += [] if browser.value("run === null && element('work').hidden") else ["it goes on"]
-    found = checked(browser, crossing(folder), 2)[0]
+    found = line_of(checked(browser, crossing(folder), 2))
     return faults + ([] if found == "optimal 5" else [f"afterwards {found}, wanted optimal 5"])
 
 
@@ -352,8 +385,8 @@ def works_by_keyboard(browser, folder):
     faults += [] if browser.value("element('k').value") == "2" else ["the example's number of agents isn't taken"]
     browser.press("Enter")
     faults += missing(verdict(browser), "optimal 5")
-    order = focused_by_tab(browser, 3)
-    return faults + ([] if order == ["check", "SUMMARY", "IFRAME"] else [f"after the verdict the order is {order}"])
+    order = focused_by_tab(browser, 2)
+    return faults + ([] if order == ["check", "IFRAME"] else [f"after the verdict the order is {order}"])
 
 
 def focused_by_tab(browser, count):
@@ -376,17 +409,13 @@ def takes_what_is_dropped(browser, folder):
         browser.drop(dropped, 300, 300)
         names = soon(browser, CHOSEN, [*TEXTS, "2"])
         faults += [] if names == [*TEXTS, "2"] else [f"of {dropped} it takes {names}"]
-    browser.drop([TOP / "LICENSE"], 300, 300)
+    place = browser.value("(box => [box.left + 9, box.top + 9])(document.querySelector('h2').getBoundingClientRect())")
+    browser.drop([TOP / "LICENSE"], *place)
     time.sleep(0.3)
-    faults += missing(browser.value("element('complaint').innerText"), "None of these files")
+    faults += missing(browser.value("element('taken').innerText"), "None of these files", "use tools/verify")
     place = browser.value("(box => [box.left + 20, box.top + 20])(element('map').getBoundingClientRect())")
     browser.drop([TOP / "LICENSE"], *place)
-    faults += missing(browser.value("element('map').files[0].name"), "LICENSE")
-    checked(browser, crossing(folder), 2)
-    place = browser.value("(box => [box.left + 90, box.top + 200])(element('side').getBoundingClientRect())")
-    browser.drop(example("random-32-32", 20), *place)
-    time.sleep(0.3)
-    return faults + missing(browser.value("element('cert').files[0].name"), "random-32-32-20-cert.txt")
+    return faults + missing(browser.value("element('map').files[0].name"), "LICENSE")
 
 
 def offers_a_choice(browser, folder):
@@ -402,7 +431,7 @@ def offers_a_choice(browser, folder):
     time.sleep(0.3)
     browser.click_on("#check")
     told = verdict(browser)
-    return faults + missing(["optimal 496", "optimal 990", "refused C3"], told[told.index("The checker's line") + 1])
+    return faults + missing(["optimal 496", "optimal 990", "refused C3"], line_of(told))
 
 
 # Plans of the crossing: two agents meet, two exchange their cells, one begins elsewhere and goes too far, two end
@@ -430,7 +459,7 @@ def draws_as_tools_draw(browser, folder):
         if data != drawn_by_tools(files):
             faults.append(f"of {files[2]} it draws {found[1][:300]}")
     told = browser.value("document.querySelector('iframe').contentDocument.body.innerText")
-    return faults + missing(told, "not valid", "agent 0 ends in (1,2), and its goal is (2,1)")
+    return faults + missing(told, "not valid, 2 faults (not proved)", "agent 0 ends in (1,2), and its goal is (2,1)")
 
 
 def drawn_by_tools(files):

@@ -12,8 +12,14 @@ let run = null;
 // What the last run was asked.
 let judged = {};
 
-// What the first lines of the plan text and the certificate that are chosen tell of a mistake.
+// What the first lines of the texts that are chosen tell of a mistake in each.
 let doubts = {};
+
+// The files that the list of each text offers, and whether one of them was chosen there.
+const offered = {};
+
+// How often what is chosen was changed.
+let changes = 0;
 
 // Choosing.
 
@@ -21,9 +27,10 @@ let doubts = {};
 async function take(files) {
   const found = await sorted(files.slice(0, mostFiles));
   const there = texts.filter((text) => found[text].length > 0);
-  const none = there.length > 0 ? "" : "None of these files is one of the four texts. ";
+  const none = there.length > 0 ? "" : `None of these files is one of the four texts. ${otherSolvers} `;
   const most = `Only the first ${mostFiles.toLocaleString("en")} files were looked at.`;
-  complain(none + (files.length > mostFiles ? most : ""));
+  complain("");
+  tellTaken(none + (files.length > mostFiles ? most : ""));
   for (const text of there) {
     put(element(text), found[text].length === 1 ? found[text][0] : null);
     offer(text, found[text]);
@@ -36,12 +43,26 @@ async function take(files) {
 function offer(text, files) {
   const list = element(`${text}-found`);
   list.hidden = files.length === 1;
+  offered[text] = { files, isChosen: false };
   const options = files.map((file, number) => new Option(pathOf(file), number));
   list.replaceChildren(new Option(`choose one of ${files.length}`, ""), ...options);
   list.onchange = () => {
-    put(element(text), files[list.value] ?? null);
+    const file = files[list.value] ?? null;
+    put(element(text), file);
+    offered[text].isChosen = file !== null;
+    chooseMates(file);
     change();
   };
+}
+
+// Has each list from which nobody has chosen a file hold the one that goes with this file.
+function chooseMates(file) {
+  const open = texts.filter((text) => !element(`${text}-found`).hidden && !offered[text].isChosen);
+  for (const text of file ? open : []) {
+    const mate = mateOf(file, offered[text].files);
+    element(`${text}-found`).value = mate ? offered[text].files.indexOf(mate) : "";
+    put(element(text), mate);
+  }
 }
 
 // A file that is chosen for a text, or dropped on its field, is that text.
@@ -53,16 +74,32 @@ function takeAs(text, file) {
 function chosen(text) {
   element(`${text}-found`).hidden = true;
   complain("");
+  tellTaken("");
   return change();
 }
 
-// After a change of a text: what was judged before isn't what is chosen now.
+// After a change of a text: what was judged or told before isn't of what is chosen now.
 async function change() {
   outdate();
-  const [plan, cert] = await Promise.all(["plan", "cert"].map((text) => headOf(element(text).files[0])));
-  doubts = { plan: doubtOf("plan", plan, cert), cert: doubtOf("cert", cert, plan) };
-  element("doubts").textContent = [...new Set(Object.values(doubts))].map(sentenceOf).join(" ");
-  noteAgents(plan.match(/^mapf-plan [12]\r?\nagents ([0-9]+)\r?\n/)?.[1] ?? "");
+  const number = ++changes;
+  doubts = {};
+  tellDoubts();
+  element("k-note").textContent = "";
+  const read = await Promise.all(texts.map((text) => headOf(element(text).files[0])));
+  if (number !== changes) {
+    return;
+  }
+  const heads = Object.fromEntries(texts.map((text, at) => [text, read[at]]));
+  doubts = Object.fromEntries(texts.map((text) => [text, doubtOf(text, heads)]));
+  tellDoubts();
+  noteAgents(heads.plan?.match(/^mapf-plan [12]\r?\nagents ([0-9]+)\r?\n/)?.[1] ?? "");
+}
+
+// Tells what is doubted, but for what the verdict tells.
+function tellDoubts(told = null) {
+  const found = Object.values(doubts).filter((doubt) => doubt && doubt.words !== told?.words);
+  const sentences = found.map(({ words, advice }) => `${sentenceOf(words)} ${advice}`);
+  element("doubts").replaceChildren(...[...new Set(sentences)].map((sentence) => made("p", sentence)));
 }
 
 // What the plan text says is taken for K, until somebody gives another number.
@@ -95,15 +132,20 @@ function drop(event) {
   document.body.classList.remove("over");
   const isFolder = hasFolder(event.dataTransfer);
   const text = texts.find((text) => text === event.target.id);
-  complain(isFolder ? "Reading the folder" : "", !isFolder);
+  tellTaken(isFolder ? "Reading the folder" : "", !isFolder);
   droppedFiles(event.dataTransfer)
     .then((files) => (text && files.length === 1 && !isFolder ? takeAs(text, files[0]) : take(files)))
-    .catch(({ message }) => complain(`What was dropped can't be read: ${message}`));
+    .catch(({ message }) => tellTaken(`What was dropped can't be read: ${message}`));
 }
 
-function complain(words, isBad = true) {
+// What became of files that came together is told above the fields, and what hinders a run below them.
+function tellTaken(words, isBad = true) {
+  element("taken").textContent = words;
+  element("taken").className = isBad ? "bad" : "";
+}
+
+function complain(words) {
   element("complaint").textContent = words;
-  element("complaint").className = isBad ? "bad" : "";
 }
 
 function hover(event) {
@@ -119,6 +161,11 @@ function start() {
   complain(missing.length > 0 ? `Still missing: ${labels.join(", ")}.` : "");
   if (missing.length > 0) {
     missing[0].focus();
+    return;
+  }
+  if (!/^0*([1-9][0-9]?|1[0-9][0-9]|200)$/.test(element("k").value.trim())) {
+    complain("Give a whole number from 1 to 200.");
+    element("k").focus();
     return;
   }
   end();
@@ -184,27 +231,32 @@ const tell = {
     end();
     showVerdict("stopped", "–", "No verdict", [words, "This says nothing of the texts."], []);
   },
-  verdict: ({ line, seen }) => showAnswer(line, seen, end()),
+  verdict: ({ line, answer, seen }) => showAnswer(line, answer, seen, end()),
 };
 
-function showAnswer(line, seen, { asked, began }) {
+function showAnswer(line, answer, seen, { asked, began }) {
   const seconds = ((performance.now() - began) / 1000).toFixed(1);
   if (line === null) {
     showVerdict("stopped", "–", "No verdict", ["The number of agents isn't a number from 1 to 200."], []);
     return;
   }
-  const meaning = meaningOf(line, Number(asked.k));
+  const agents = Number(asked.k);
+  const meaning = meaningOf(line, agents);
   const code = line.split(" ")[1];
-  const doubt = { C1: doubts.plan, C2: doubts.cert }[code];
+  const doubt = doubts[{ F1: "map", F2: "scen", C1: "plan", C2: "cert" }[code]];
+  const hints = doubt ? [{ ...doubt, isWhole: true }] : seen.hints;
   const sentences = meaning
     ? [meaning, "What this checker accepts is true: this is proved in Coq."]
-    : refusalOf(code, seen.version, doubt ? [doubt] : seen.hints);
+    : refusalOf(code, seen.version, hints, answer, agents);
   const facts = [
-    ["The checker's line", line], ["Map", named(asked.map)], ["Scenario", named(asked.scen)], ["Agents", asked.k],
-    ["Plan text", named(asked.plan)], ["Certificate", named(asked.cert)], ["Time", `${seconds} seconds`],
+    ["The checker's line", line], ["Map", named(asked.map)], ["Scenario", named(asked.scen)],
+    ["Agents", agents], ["Plan text", named(asked.plan)], ["Certificate", named(asked.cert)],
+    ["Time", `${seconds} seconds`],
   ];
-  draw(seen.drawing);
-  showVerdict(meaning ? "good" : "bad", meaning ? "✓" : "✗", meaning ? line : headlineOf(code), sentences, facts);
+  draw(seen.drawing, undrawnOf(code, answer));
+  const title = meaning ? acceptedOf(line) : headlineOf(code, hints);
+  showVerdict(meaning ? "good" : "bad", meaning ? "✓" : "✗", title, sentences, facts);
+  tellDoubts(doubt);
 }
 
 function named(file) {
@@ -231,9 +283,12 @@ function showVerdict(kind, sign, words, sentences, facts) {
   title.append(mark, made("span", words));
   const list = made("dl", "");
   list.append(...facts.flatMap(([name, value]) => [made("dt", name), made("dd", value)]));
+  const link = made("a", "See the plan ↓");
+  link.href = "#side";
+  const links = element("side").querySelector("iframe") ? [link] : [];
   const verdict = element("verdict");
   verdict.className = verdict.style.minHeight = "";
-  verdict.replaceChildren(title, ...sentences.map((sentence) => made("p", sentence)), list);
+  verdict.replaceChildren(title, ...links, ...sentences.map((sentence) => made("p", sentence)), list);
   verdict.scrollIntoView({ block: "nearest" });
 }
 
@@ -256,10 +311,10 @@ function tellAmount() {
     : seconds;
 }
 
-// The page of tools/draw, in a frame.
-function draw(data) {
+// The page of tools/draw, in a frame, or words in its place.
+function draw(data, words = "Once a plan is judged, it is drawn here.") {
   if (data === null) {
-    element("side").replaceChildren(made("p", "Once a plan is judged, it is drawn here."));
+    element("side").replaceChildren(made("p", words));
     return;
   }
   const agents = data.agents.map((agent, number) => ({ colour: parts.colours[number], ...agent }));
@@ -280,7 +335,7 @@ function listen() {
   element("example").addEventListener("click", takeExample);
   for (const id of ["files", "folder"]) {
     element(id).addEventListener("change", ({ target }) => {
-      complain(id === "folder" ? "Reading the folder" : "", false);
+      tellTaken(id === "folder" ? "Reading the folder" : "", false);
       take([...target.files]);
       target.value = "";
     });

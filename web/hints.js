@@ -3,18 +3,17 @@
 // What another reading of the texts sees beside the verdict: the plan's drawing, and hints at what may be wrong.
 // Nothing here is proved, and the verdict doesn't depend on it.
 
-// Nothing is drawn where the checker didn't come as far as the plan.
-const undrawn = ["F1", "F2", "C1", "C3"];
-
-// The drawing, null where there is none, the version of the certificate, and hints, a part of a sentence each.
-function seenOf(line, asked, texts) {
+// The drawing, null where there is none, the version of the certificate, and hints, as words.js has them. Nothing is
+// drawn before the checker has judged the plan.
+function seenOf(line, answer, asked, texts) {
   const code = line?.split(" ")[1];
   const seen = { drawing: null, hints: [], version: Number(wordAt(texts.cert, 0, 1)) };
   try {
     const drawing = drawingOf(asked, texts.map, texts.scen, texts.plan);
     const fault = ["C1", "C5"].includes(code) ? drawing?.faults[0]?.words : null;
-    seen.hints = [hintsAt[code]?.(texts, Number(asked.k)), fault].filter((hint) => hint);
-    seen.drawing = line === null || undrawn.includes(code) ? null : drawing;
+    seen.hints = [hintsAt[code]?.(texts, Number(asked.k)), fault].filter((hint) => hint)
+      .map((hint) => (hint.words ? hint : { words: hint }));
+    seen.drawing = answer !== null || code === "C5" ? drawing : null;
   } catch {
     // What can't be read needs no hint beside the verdict.
   }
@@ -24,10 +23,10 @@ function seenOf(line, asked, texts) {
 const hintsAt = {
   F1: ({ map }) => hintOfMap(linesOf(map)),
   F2: ({ map, scen }, k) => hintOfScenario(readGrid(map), linesOf(scen), k),
-  C1: ({ plan }) => hintOfPlan(linesOf(plan)),
-  C2: ({ cert }) => hintOfEnd("certificate", linesOf(cert.subarray(-64))),
+  C1: ({ plan }) => hintOfPlan(linesOf(plan)) || hintOfEnd("plan text", plan),
+  C2: ({ cert }) => hintOfEnd("certificate", cert),
   C3: ({ plan, cert }, k) =>
-    `the plan text says ${wordAt(plan, 1, 1)} agents, the certificate ${wordAt(cert, 1, 1)}, you ${k}`,
+    `the plan text says ${agentsOf(wordAt(plan, 1, 1))}, the certificate ${wordAt(cert, 1, 1)}, you ${k}`,
   C4: ({ plan, cert }) => hintOfClaim(headLines(plan)[2], headLines(cert)[2]),
 };
 
@@ -37,6 +36,10 @@ function headLines(text) {
 
 function wordAt(text, line, word) {
   return wordsIn(headLines(text)[line] ?? "")[word] ?? "none";
+}
+
+function agentsOf(count) {
+  return Number(count) === 1 ? "1 agent" : `${count} agents`;
 }
 
 function hintOfMap(lines) {
@@ -64,8 +67,12 @@ function hintOfScenario(grid, lines, k) {
     return 'the first line of the scenario isn\'t "version 1"';
   }
   const hints = rows.slice(0, k).map((row, agent) => hintOfRow(grid, row, agent));
-  const few = rows.length < k ? `the scenario has ${rows.length} agents, and you ask for ${k}` : "";
-  return hints.find((hint) => hint) ?? few;
+  const few = {
+    words: `the scenario has ${agentsOf(rows.length)}, and you ask for ${k}`,
+    advice: "Give a smaller number of agents, or choose another scenario.",
+    isWhole: true,
+  };
+  return hints.find((hint) => hint) ?? (rows.length < k ? few : "");
 }
 
 function hintOfRow(grid, row, agent) {
@@ -98,17 +105,36 @@ function hintOfPlan(lines) {
   if (said && Number(said) !== sum) {
     return `the plan text says the cost ${said}, and its paths add up to ${sum}`;
   }
-  return hintOfEnd("plan text", lines);
+  return "";
 }
 
-function hintOfEnd(name, lines) {
-  return lines.at(-2) === "end" && lines.at(-1) === "" ? "" : `the ${name} doesn't end with the line "end"`;
+function hintOfEnd(name, text) {
+  const behind = placeBehindEnd(text);
+  if (behind < 0) {
+    const isOpen = linesOf(text.subarray(-4)).join(" ") === " end";
+    return isOpen ? `the last line of the ${name} has no line end (LF)` : `the ${name} doesn't end with the line "end"`;
+  }
+  return behind < text.length ? `there is text after the line "end" of the ${name}` : "";
+}
+
+// The place behind the first line "end", Less than 0 where there is none.
+function placeBehindEnd(text) {
+  const [lineFeed, letters] = [10, [101, 110, 100, 10]];
+  let at = text.indexOf(lineFeed);
+  while (at >= 0 && !letters.every((letter, i) => text[at + 1 + i] === letter)) {
+    at = text.indexOf(lineFeed, at + 1);
+  }
+  return at < 0 ? at : at + 1 + letters.length;
 }
 
 // What a claim and an answer say, where both are of a cost; else the lines themselves.
 function hintOfClaim(answer, claim) {
   const [cost, claimed] = [answer.match(/^cost (\d+)$/)?.[1], claim.match(/^claim (?:cost|bound) (\d+)$/)?.[1]];
-  return cost && claimed && cost !== claimed
-    ? `the certificate claims ${claimed}, the plan costs ${cost}`
-    : `the certificate says "${claim}", the plan text "${answer}"`;
+  if (!cost || !claimed || cost === claimed) {
+    return `the certificate says "${claim}", the plan text "${answer}"`;
+  }
+  const words = `the certificate claims ${claimed}, the plan costs ${cost}`;
+  const advice = "Choose the certificate that belongs to this plan text. If the plan is dearer than the cheapest, the"
+    + ` verdict "within" needs a certificate with "claim bound ${claimed}".`;
+  return Number(cost) > Number(claimed) ? { words, advice } : words;
 }

@@ -14,8 +14,23 @@ function meaningOf(line, agents) {
     bound: `no valid plan has a sum of costs below ${first}. There may be no valid plan.`,
     impossible: "no plan is valid.",
   }[kind];
-  const whose = agents === 1 ? "the first agent" : `the first ${agents} agents`;
-  return meaning ? `For ${whose} of the scenario, ${meaning}` : null;
+  return meaning ? `For ${whose(agents)}, ${meaning}` : null;
+}
+
+function whose(agents) {
+  return `${agents === 1 ? "the first agent" : `the first ${agents} agents`} of the scenario`;
+}
+
+// The same in short, for the headline.
+function acceptedOf(line) {
+  const [kind, ...numbers] = line.split(" ");
+  const [first, second] = numbers.map((number) => Number(number).toLocaleString("en"));
+  return {
+    optimal: `Optimal, cost ${first}`,
+    within: `Valid, cost ${second}; every valid plan costs at least ${first}`,
+    bound: `Every valid plan costs at least ${first}`,
+    impossible: "No plan is valid",
+  }[kind];
 }
 
 function gapText(bound, cost) {
@@ -24,10 +39,10 @@ function gapText(bound, cost) {
 }
 
 const meanings = {
-  F1: "the map isn't of its format",
-  F2: "the scenario isn't of its format, doesn't fit the map, or has fewer agents than you ask for",
-  C1: "the plan text isn't of its grammar, or a number in it is out of range",
-  C2: "the certificate isn't of its grammar, or a number in it is out of range",
+  F1: "the map isn't written as the format asks",
+  F2: "the scenario isn't written as the format asks, doesn't fit the map, or has fewer agents than you ask for",
+  C1: "the plan text isn't written as the format asks, or a number in it is out of range",
+  C2: "the certificate isn't written as the format asks, or a number in it is out of range",
   C3: "the number of agents differs from the problem's, in the plan text or in the certificate",
   C4: "the claim doesn't fit the answer, or the plan text has a limit answer of version 1",
   C5: "the plan isn't valid",
@@ -85,19 +100,57 @@ const corrections = {
   C5: "No certificate helps as long as the plan isn't corrected.",
 };
 const isOpen = "The claim may be true: another certificate may show it.";
+const isDamaged = "The file is damaged or isn't a certificate: get it again.";
+const reasonSeen = "The reason above is seen by another reading, which isn't proved.";
 const noPlace = "This checker doesn't tell where: tools/recheck names the line.";
 
-function headlineOf(code) {
-  return `Refused: ${meanings[code]} (${code})`;
+// Hints are of another reading. Each has words, a part of a sentence, and may have advice. One that is the whole reason
+// needs no rule beside it.
+
+// The hint of the headline: it knows which meaning of the code is meant. C5 has one meaning alone.
+function headHint(code, hints) {
+  return code === "C5" ? undefined : hints[0];
 }
 
-// What a refusal means, a sentence each. The hints are of another reading, a part of a sentence each.
-function refusalOf(code, version, hints) {
+function headlineOf(code, hints) {
+  return `Refused: ${headHint(code, hints)?.words ?? meanings[code]} (${code})`;
+}
+
+// Why nothing is drawn beside a verdict. A plan text with a limit answer of version 1 has no plan either.
+function undrawnOf(code, answer) {
+  if (answer === null && code !== "C4") {
+    return "Nothing is drawn: the texts were refused before a plan was judged.";
+  }
+  return costOf(answer) ? "The plan can't be drawn." : "This answer has no plan to draw.";
+}
+
+// The cost of the plan, where the checker has found it valid.
+function costOf(answer) {
+  return answer?.match(/^optimal (\d+)$/)?.[1];
+}
+
+// What is proved although the texts are refused, a sentence each. The checker judges the plan before it takes the
+// certificate, and its answer then is true too: the lemma prepare_fits of coq/Checker.v.
+function provedOf(answer, agents) {
+  const cost = costOf(answer);
+  return cost === undefined ? ["Nothing is proved."] : [
+    `For ${whose(agents)}, the plan is valid, and its sum of costs is ${Number(cost).toLocaleString("en")}. The checker`
+      + " judged it before the certificate, and this too is proved in Coq.",
+    "How cheap a valid plan can be isn't proved.",
+  ];
+}
+
+// What a refusal means under its headline, a sentence each.
+function refusalOf(code, version, hints, answer, agents) {
   const [place, rule] = (version === 3 && rules3[code]) || rules[code];
-  const seen = hints.map(sentenceOf).join(" ");
-  const where = `The rule is in the project's docs: FORMATS.md, ${place}.`;
+  const above = headHint(code, hints);
+  const others = hints.filter((hint) => hint !== above).map(({ words }) => sentenceOf(words)).join(" ");
   return [
-    ...(seen ? [`Seen by another reading, which isn't proved: ${seen}`] : []), ...(rule ? [rule] : []),
-    ...(code in corrections ? [] : [noPlace]), where, `Nothing is proved. ${corrections[code] ?? isOpen}`,
+    ...(above ? [`${code} means that ${meanings[code]}.`, reasonSeen] : []),
+    ...(others ? [`Seen by another reading, which isn't proved: ${others}`] : []),
+    ...(rule && !above?.isWhole ? [rule] : []),
+    ...(above || code in corrections ? [] : [noPlace]),
+    ...(above?.isWhole ? [] : [`The rule is in the project's docs: FORMATS.md, ${place}.`]),
+    ...provedOf(answer, agents), above?.advice ?? (code === "C2" && above ? isDamaged : corrections[code] ?? isOpen),
   ];
 }

@@ -11,8 +11,8 @@ onmessage = async ({ data: asked }) => {
     const [map, scen, plan, cert] = await Promise.all([asked.map, asked.scen, asked.plan, asked.cert].map(bytesOf));
     const k = new TextEncoder().encode(asked.k);
     postMessage({ kind: "prepares" });
-    const line = judge(map, scen, k, plan, partsOf(cert));
-    postMessage({ kind: "verdict", line, seen: seenOf(line, asked, { map, scen, plan, cert }) });
+    const [line, answer] = judge(map, scen, k, plan, partsOf(cert)) ?? [null, null];
+    postMessage({ kind: "verdict", line, answer, seen: seenOf(line, answer, asked, { map, scen, plan, cert }) });
   } catch (error) {
     postMessage({ kind: "fault", words: wordsOf(error) });
   }
