@@ -3,15 +3,19 @@ ghost use Rattle.mapf_bench.specs.Jobs.{IsInRange};
 
 use mapf_model::limits::{MOST_AGENTS, MOST_SPLITS};
 
-/// What is done with each problem after it was solved.
+/// What is done with each problem.
 #[derive(Clone, Copy, Debug)]
 pub enum Task {
-    /// Nothing.
+    /// Plain search solves it.
     Solve,
-    /// The answer is checked.
+    /// Plain search solves it, and the answer is checked.
     Check,
-    /// The answer is checked, and a plan is played.
+    /// Plain search solves it, the answer is checked, and a plan is played.
     Play,
+    /// The second search solves it, which begins with a plan.
+    Second,
+    /// The second search solves it, and the answer is checked again and again.
+    Judge,
 }
 
 /// What the floors look like.
@@ -86,6 +90,8 @@ fn task_of(word: &str) -> Option<Task> {
         "solve" => Some(Task::Solve),
         "check" => Some(Task::Check),
         "play" => Some(Task::Play),
+        "second" => Some(Task::Second),
+        "judge" => Some(Task::Judge),
         _ => None,
     }
 }

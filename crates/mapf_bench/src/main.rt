@@ -19,7 +19,8 @@ fn main(rt: HostRuntime) -> Result<()> {
     }
     let Some(job) = Job::of(&words) else {
         return Err(anyhow!(
-            "usage: mapf_bench solve|check|play open|random|maze|warehouse WIDTH HEIGHT AGENTS LIMIT PROBLEMS SEED"
+            "usage: mapf_bench solve|check|play|second|judge open|random|maze|warehouse \
+             WIDTH HEIGHT AGENTS LIMIT PROBLEMS SEED"
         ));
     };
     for number in 0..job.problems {
