@@ -5,6 +5,7 @@
 //   REFUSE_MEMORY_FROM        the number of a request: it is refused, and each later one
 //   REFUSE_MEMORY_AFTER_ENDS  a count: once so many reads have found the end of a file, each request is
 //                             refused
+//   REFUSE_MEMORY_AFTER_WRITES  a count: once so many writes were made, each request is refused
 #include <errno.h>
 #include <fcntl.h>
 #include <stddef.h>
@@ -22,9 +23,11 @@ extern void *__libc_memalign(size_t alignment, size_t size);
 static unsigned long refused_number;
 static unsigned long first_refused;
 static unsigned long ends_before;
+static unsigned long writes_before;
 
 static unsigned long requests;
 static unsigned long ends;
+static unsigned long writes;
 
 static unsigned long setting(const char *name) {
     const char *number = getenv(name);
@@ -36,6 +39,7 @@ __attribute__((constructor)) static void begin(void) {
     refused_number = setting("REFUSE_MEMORY_AT");
     first_refused = setting("REFUSE_MEMORY_FROM");
     ends_before = setting("REFUSE_MEMORY_AFTER_ENDS");
+    writes_before = setting("REFUSE_MEMORY_AFTER_WRITES");
     requests = 0;
 }
 
@@ -49,7 +53,7 @@ static void tell(void) {
 
 static int is_chosen(void) {
     return (refused_number != 0 && requests == refused_number) || (first_refused != 0 && requests >= first_refused) ||
-        (ends_before != 0 && ends >= ends_before);
+        (ends_before != 0 && ends >= ends_before) || (writes_before != 0 && writes >= writes_before);
 }
 
 static int is_refused(void) {
@@ -66,6 +70,11 @@ ssize_t read(int file, void *bytes, size_t size) {
     ssize_t moved = syscall(SYS_read, file, bytes, size);
     ends += moved == 0 && size > 0;
     return moved;
+}
+
+ssize_t write(int file, const void *bytes, size_t size) {
+    writes++;
+    return syscall(SYS_write, file, bytes, size);
 }
 
 void *malloc(size_t size) {
