@@ -1,29 +1,30 @@
 /* The calls of mapf for C and C++: solve a problem of multi-agent path finding, check a plan with its certificate,
    judge a plan alone, and let agents follow a plan.
 
-   Texts. A text is given as a pointer and a length in bytes, and need not end with a 0. The pointer is never null, also
-   where the length is 0. What the texts are is said in docs/FORMATS.md. A map, a scenario and a plan text have at most
-   67,108,864 bytes, a certificate 1,099,511,627,776; a longer one is told as MAPF_F4.
+   Texts. A text is given as a pointer and a length in bytes, and need not end with a 0. No pointer is ever null, of a
+   text, a buffer or a list, also where its length is 0. What the texts are is said in docs/FORMATS.md. A map, a
+   scenario and a plan text have at most 67,108,864 bytes, a certificate 1,099,511,627,776; a longer one is told as
+   MAPF_F4.
 
    Buffers. Answers that are texts go into buffers of the caller's, which are given as texts are. A buffer overlaps no
    text and no other buffer.
 
    Memory. A dispatcher has to be freed, and nothing else: all other calls keep nothing. A call takes its memory by
    malloc and realloc, gives it back by free before it returns, and answers MAPF_F6 where malloc or realloc returns
-   null. These three have to belong together, and blocks have to begin at multiples of 16, as those of every C library
+   null. These three have to belong together, and blocks have to begin at multiples of 16, as those of glibc and musl
    do.
 
    Threads. Any calls may run in several threads at once, as long as no buffer of one is a text or a buffer of another,
-   and each dispatcher stays in the thread that made it. A call shares nothing with another one, opens no file, prints
+   and a dispatcher is used by one thread at a time. A call shares nothing with another one, opens no file, prints
    nothing and never ends the process. Don't call from a handler of signals, nor in the child of a fork of a process
-   with threads.
+   with threads. A search can't be stopped: make one that may take too long in a process of its own.
 
    Units. Agents, rows of the grid and rows of the scenario are counted from 0, columns and ticks too, lines of a text
-   from 1. Costs and bounds are in ticks: the cost of a plan is the sum, over its agents, of the tick of the last arrival
-   at the goal.
+   from 1. Costs and bounds are in ticks: the cost of a plan is the sum, over its agents, of the tick of the last
+   arrival at the goal.
 
-   What is proved. The clauses of crates/mapf_c are proved of each call, and docs/PROOFS.md says what they rest on. Below,
-   'Proved' says in a sentence what they are. Nothing checks that a caller passes what is asked for here. */
+   What is proved. The clauses of crates/mapf_c are proved of each call, and docs/PROOFS.md says what they rest on.
+   Below, 'Proved' says in a sentence what they are. Nothing checks that a caller passes what is asked for here. */
 #ifndef MAPF_H
 #define MAPF_H
 
@@ -57,14 +58,15 @@ extern "C" {
 #define MAPF_C9 19u  /* a clash, */
 #define MAPF_C10 20u /* or something else of version 3 */
 
-/* mapf_fault.defect: the number of an error of docs/FORMATS.md, with 100 for M1 to M9 (of a map), 200 for S1 to S7 (of a
-   scenario), 300 for P1 to P4 (of a plan text), 400 for K1 to K4 (of a certificate) and 500 for V1 to V5 (of a plan that
-   isn't valid): M4 is 104. Or which text is too long. 0 where there is none. */
+/* mapf_fault.defect: the number of an error of docs/FORMATS.md, with 100 for M1 to M9 (of a map), 200 for S1 to S7 (of
+   a scenario), 300 for P1 to P4 (of a plan text), 400 for K1 to K4 (of a certificate) and 500 for V1 to V5 (of a plan
+   that isn't valid): M4 is 104. Or which text is too long. 0 where there is none. */
 #define MAPF_MAP 601u
 #define MAPF_SCEN 602u
 #define MAPF_PLAN 603u
 #define MAPF_CERT 604u
-/* Or why a plan text has no plan to judge: it says that there is none, or is for another number of agents. */
+/* Or, of MAPF_F3 alone, why a plan text has no plan to judge: it says that there is none, or is for another number of
+   agents. */
 #define MAPF_NO_PLAN 605u
 #define MAPF_OTHER_COUNT 606u
 
@@ -72,7 +74,7 @@ extern "C" {
 
      M4, M9     a line of the map               M6        a row of the grid
      M7         a column and a row of it        M8        how many rows the map has
-     S2, S4-S6  a row of the scenario           S3        a row of the scenario, and a field, counted from 1
+     S2, S4-S6  a row of the scenario           S3        a row of it, and a field; fields are counted from 1
      S7         how many rows the scenario has  P, K, C6-C10  a line
      V1, V3     an agent                        V2        an agent and a tick
      V4, V5     two agents and a tick */
@@ -98,7 +100,7 @@ typedef struct mapf_fault {
 #define MAPF_TICKS 2u  /* it would have to split at tick 1,000,000 or later */
 
 /* What a call found. `bound` and `cost` are 0 to 1,999,999,800. Where a plan is optimal, both are its cost; what an
-   answer doesn't have is 0. `fault` is all 0 unless `kind` is MAPF_NO_ANSWER. */
+   answer doesn't have is 0, as the bound of MAPF_VALID. `fault` has only zeros unless `kind` is MAPF_NO_ANSWER. */
 typedef struct mapf_answer {
     uint32_t kind;
     uint32_t cause;
@@ -116,7 +118,7 @@ typedef struct mapf_question {
     uint32_t agents;       /* how many agents of the scenario count, 1 to 200 */
     uint32_t search;       /* MAPF_CBS or MAPF_CBSH */
     uint32_t limit;        /* how many splits the search may make, 0 to 100,000 */
-    uint32_t improvements; /* how often MAPF_CBSH improves its first plan, 0 to 1,000,000; the program takes 50 * agents */
+    uint32_t improvements; /* how often MAPF_CBSH improves its first plan, 0 to 1,000,000; say 50 * agents */
 } mapf_question;
 
 /* What a search found, and its two texts. */
@@ -128,19 +130,19 @@ typedef struct mapf_solution {
     size_t cert_length;  /* bytes of the certificate, 0 if there is no answer */
 } mapf_solution;
 
-/* A dispatcher, or none. It is none if all its bytes are 0. Only the calls below change it. It may be copied, but then
-   only one of the copies is used from then on. */
+/* A dispatcher, or none. It is none if `kept` is null and `is_made` is 0. Only the calls below change it. It may be
+   copied, but then only one of the copies is used from then on. */
 typedef struct mapf_dispatcher {
     void *kept;
     uint32_t is_made; /* 1 if there is a dispatcher, else 0 */
 } mapf_dispatcher;
 
 /* mapf_reply.kind, beside MAPF_RANGE, which says that this isn't an agent. */
-#define MAPF_GO 1u   /* the agent moves to the cell `number`, its next one, and is there from now on */
-#define MAPF_HOLD 2u /* it waits for the agent `number`, and may ask again later */
+#define MAPF_GO 1u   /* the agent is in the cell `number`, its next one, from now on, and the one before is free */
+#define MAPF_HOLD 2u /* it waits for the agent `number` to leave a cell, and may ask again later */
 #define MAPF_DONE 3u /* it is at the end of its path and stays there */
 
-/* A reply to an agent that asks to move on. A cell is told by its number: its row times the width of the map, and its
+/* A reply to an agent that asks to move on. A cell is told by its number: its row times the width of the map, plus its
    column. `number` is 0 where there is none. */
 typedef struct mapf_reply {
     uint32_t kind;
@@ -161,6 +163,10 @@ uint32_t mapf_version(void);
 
 /* Checks a plan text and a certificate for the problem of the first `agents` agents (1 to 200) of a scenario.
 
+   The certificate's claim has to fit the cost of the plan, else the answer is MAPF_C4. So a plan that costs more than
+   the optimal one is refused beside its certificate. For a bound in place of this: compare the costs of mapf_validate
+   and mapf_solve; or, in a certificate of version 3, write `claim bound B` for `claim cost B`, then it is MAPF_WITHIN.
+
    Proved: a verdict is true of the problem that the map and the scenario spell, whoever wrote the other two texts; an
    error is one that the texts have; and what has to be accepted is accepted, unless a text is too long or memory runs
    out. That the error is the first one, and the line of C6 to C10, is tested. */
@@ -179,8 +185,9 @@ mapf_answer mapf_validate(const char *map, size_t map_length, const char *scen, 
    version 2 or, by MAPF_CBSH, 3. Nothing but `limit` bounds the time and the memory that a search takes.
 
    If there is an answer and both texts fit into their buffers, they are written to their fronts. Else nothing is
-   written, and the lengths say how much room they need: a second call with enough room answers the same, and writes
-   these texts. Bytes behind a text stay as they were.
+   written, and the lengths say how much room they need: a second call with enough room searches again, answers the
+   same, and writes these texts. Certificates of 60 agents may have some megabytes. Bytes behind a text stay as they
+   were.
 
    Proved: the answer is true of the problem that the map and the scenario spell, mapf_check accepts the two texts with
    it, an error is one that these have, and nothing but the two texts is written. That the same call answers the same is
@@ -189,25 +196,29 @@ mapf_solution mapf_solve(const char *map, size_t map_length, const char *scen, s
                          mapf_question question, char *plan, size_t plan_room, char *cert, size_t cert_room);
 
 /* Makes a dispatcher of the plan of a plan text, for the problem of the first `agents` agents (1 to 200) of a scenario.
-   Each agent begins in its first visit. Returns an error that is all 0, or why there is no dispatcher. The place for it
-   has all its bytes 0, or a dispatcher, which is freed first. A new one is freed by mapf_dispatcher_free.
+   Each agent begins in its first visit. Returns MAPF_NO_FAULT, or why there is no dispatcher. The place for it holds
+   none or one, which is freed first, also before an error. A new one is freed by mapf_dispatcher_free.
 
    Proved: the plan is valid; each valid plan gets a dispatcher, unless a text is too long or memory runs out; and an
    error is one that the texts have. */
 mapf_fault mapf_dispatcher_new(mapf_dispatcher *dispatcher, const char *map, size_t map_length, const char *scen,
                                size_t scen_length, uint32_t agents, const char *plan, size_t plan_length);
 
-/* Lets `count` agents, counted from 0, ask one after another to move on, and puts their replies into a buffer of
-   `room` replies. Returns how many were answered: `count`, or 0 if there is no dispatcher or the buffer is too short.
-   Then nothing changes. It takes no memory, which is tested.
+/* Lets `count` agents, counted from 0, ask one after another to move on, and puts their replies into a buffer of `room`
+   replies. Returns how many were answered: `count`, or 0 if there is no dispatcher (`is_made` is 0) or the buffer is
+   too short. Then nothing changes. It takes no memory, which is tested.
+
+   The cell that an agent leaves is free from the reply MAPF_GO on: where moves take time, let no agent ask until the
+   move is finished. Agents in a full cycle of the plan, of which each goes where the next one is, are told MAPF_HOLD
+   for ever, and so is whoever waits for them: `number` leads from each to the next. tools/uncycle makes a plan without.
 
    Proved: each reply is the one that the program's `dispatch` gives, so agents keep the plan's order at each cell. One
    that isn't an agent is told MAPF_RANGE and changes nothing. */
 size_t mapf_dispatcher_ask(mapf_dispatcher *dispatcher, const uint32_t *agents, size_t count, mapf_reply *replies,
                            size_t room);
 
-/* Returns how many visits an agent has, and its visit of this number, both counted from 0. It takes no memory, which is
-   tested.
+/* Returns how many visits an agent has, and its visit of this number, both counted from 0. An agent is in the visit of
+   as many as it was told MAPF_GO. It takes no memory, which is tested.
 
    Proved: the visit is the one of the plan's path, and nothing changes. */
 mapf_visit mapf_dispatcher_visit(mapf_dispatcher *dispatcher, uint32_t agent, uint32_t number);
