@@ -42,6 +42,13 @@ REFUSED = {
     "another line": ("go 0 1,1\nstop 1\n", "line 2: a line 'go I x,y'"),
 }
 
+WRONG_WORDS = {
+    "moves that take no time": ["--delay", "0"],
+    "moves that take less": ["--delay", "-1"],
+    "a robot that isn't there": ["--stop", str(ROBOTS), "1"],
+    "seconds that are no number": ["--stop", "7", "nan"],
+}
+
 
 def tests(tally):
     with tempfile.TemporaryDirectory() as name:
@@ -54,6 +61,11 @@ def tests(tally):
         for title, more in (("all at once", []), ("one stands still", ["--stop", "7", STILL])):
             tally.add(f"fleet, {ROBOTS} robots, {title}", fleet_faults(folder, plan, more))
         tally.add("fleet, robots in a full cycle", cycle_faults(folder))
+        tally.add("fleet, answers that can't be printed", unprinted_faults(plan))
+        for title, more in WRONG_WORDS.items():
+            ended = called([GRID, SCENARIO, str(ROBOTS), str(plan), *more])
+            is_told = ended.returncode == 2 and f"error: {more[0]}: " in ended.stderr and not ended.stdout
+            tally.add(f"fleet, {title}", [] if is_told else [f"status {ended.returncode}, {ended.stderr[-300:]!r}"])
 
 
 def log_faults(folder, text, wanted):
@@ -86,7 +98,7 @@ def called(words):
 
 
 def fleet_faults(folder, plan, more):
-    """The robots come to their goals along their paths, no two in one cell, and the page of the log shows so."""
+    """The robots come to their goals along their paths, and the page of the log shows so."""
     ended = called([GRID, SCENARIO, str(ROBOTS), str(plan), "--delay", DELAY, *more])
     if ended.returncode != 0 or f"{ROBOTS} robots are at their goals" not in ended.stderr:
         return [f"status {ended.returncode}, {ended.stderr[-300:]!r}"]
@@ -103,9 +115,18 @@ def fleet_faults(folder, plan, more):
 def cycle_faults(folder):
     """Robots in a full cycle end the run, with a line that says what to do."""
     ended = called([*written(folder, ["..", ".."], SQUARE), "--delay", DELAY])
-    is_told = ended.returncode == 1 and "stands in a full cycle: tools/uncycle" in ended.stderr
+    is_told = ended.returncode == 1 and "robots 0, 1, 2, 3 stand in a full cycle: tools/uncycle" in ended.stderr
     faults = [] if is_told else [f"status {ended.returncode}, {ended.stderr[-300:]!r}"]
     return faults + ([] if "cycle 0 1 2 3\n" in ended.stdout else ["the answers have no line of the cycle"])
+
+
+def unprinted_faults(plan):
+    """Where the answers can't be printed the run ends, and doesn't tell of robots at their goals."""
+    with open("/dev/full", "w") as full:
+        ended = subprocess.run([sys.executable, str(FLEET), GRID, SCENARIO, str(ROBOTS), str(plan)], stdout=full,
+                               stdin=subprocess.DEVNULL, stderr=subprocess.PIPE, text=True, timeout=SECONDS)
+    is_told = ended.returncode == 2 and "the answers can't be printed" in ended.stderr
+    return [] if is_told else [f"status {ended.returncode}, {ended.stderr[-300:]!r}"]
 
 
 def without_waits(path):
