@@ -36,7 +36,8 @@ bool are_same(const mapf_answer &a, const mapf_answer &b) {
         a.fault.error == b.fault.error;
 }
 
-// What agents are told that follow the plan, if there is one: in turn, as often as the longest of their paths takes.
+// What agents are told that follow the plan, if there is one: in turn, as often as the longest of their paths takes. They
+// ask in another thread than the one that makes and frees the dispatcher.
 std::vector<mapf_reply> replies_of(const std::string &map, const std::string &scen, uint32_t count,
                                    const std::string &plan) {
     mapf_dispatcher dispatcher{};
@@ -46,7 +47,10 @@ std::vector<mapf_reply> replies_of(const std::string &map, const std::string &sc
         agents.push_back(turn % count);
     }
     std::vector<mapf_reply> replies(agents.size());
-    replies.resize(mapf_dispatcher_ask(&dispatcher, agents.data(), agents.size(), replies.data(), replies.size()));
+    std::thread other([&] {
+        replies.resize(mapf_dispatcher_ask(&dispatcher, agents.data(), agents.size(), replies.data(), replies.size()));
+    });
+    other.join();
     mapf_dispatcher_free(&dispatcher);
     return replies;
 }
