@@ -9,7 +9,7 @@ pub enum Place {
     Map,
     Scenario,
     PlanText,
-    /// An error of a plan, or of the text in which it stands, or of an event text.
+    /// An error of a plan, or of the text in which it stands, or of events or requests.
     Played,
     Plan,
     Certificate,
@@ -18,11 +18,17 @@ pub enum Place {
     /// Which limit was reached.
     Limit,
     Bound,
+    /// What a line of `follow`'s input is, which isn't answered by a reply.
+    Request,
+    /// Who holds an agent.
+    Holder,
+    /// The numbers of agents, any number of them.
+    Agents,
     /// No word follows.
     End,
 }
 
-/// What a word means, with `#` for each number that follows, and what may come after these.
+/// What a word means, with `#` for each number that follows, `@` for a cell after these, and what may come then.
 #[derive(Clone, Copy, Debug)]
 pub struct Meaning {
     pub words: &'static str,
@@ -44,7 +50,9 @@ pub fn meaning_of(place: Place, word: &str) -> Option<Meaning> {
         Place::Output => of_output(word),
         Place::Limit => of_limit(word),
         Place::Bound => of_bound(word),
-        Place::End => None,
+        Place::Request => of_request(word),
+        Place::Holder => of_holder(word),
+        Place::Agents | Place::End => None,
     }
 }
 
@@ -80,6 +88,26 @@ fn of_line(word: &str) -> Option<Meaning> {
         "bound" => last("no valid plan costs less than # ticks"),
         "impossible" => last("no plan is valid"),
         "limit" => then("the search ended without a plan", Place::Limit),
+        _ => of_execution(word),
+    }
+}
+
+// The lines of `play`, `dispatch` and `follow`.
+fn of_execution(word: &str) -> Option<Meaning> {
+    match word {
+        "tick" => last("the rows below show where the agents are at tick #"),
+        "end" => last("the makespan is # ticks"),
+        "go" => last("agent # goes on, into cell @"),
+        "hold" => then("agent # has to wait, and may ask again", Place::Holder),
+        "done" => last("agent # is in its last cell, and stays there"),
+        "cycle" => then(
+            "the agents in full cycles, who wait for ever:",
+            Place::Agents,
+        ),
+        "error" => then(
+            "the line isn't answered, and changes nothing",
+            Place::Request,
+        ),
         _ => None,
     }
 }
@@ -148,10 +176,10 @@ fn of_played(word: &str) -> Option<Meaning> {
     match word {
         "none" => last("the plan text holds no plan"),
         "count" => last("the number of agents of the plan text isn't K"),
-        "E1" => last("line # of the event text has another shape than it must have"),
-        "E2" => last("the event text ends where line # should begin, or before its end"),
-        "E3" => last("the agent in line # of the event text is out of range"),
-        "E4" => last("in the event text something follows the line 'end'; it begins at line #"),
+        "E1" => last("line # of the events or requests has another shape than it must have"),
+        "E2" => last("the events or requests end where line # should begin, or before its end"),
+        "E3" => last("the agent in line # of the events is out of range"),
+        "E4" => last("after the events something follows the line 'end'; it begins at line #"),
         _ => of_plan_text(word).or(of_plan(word)),
     }
 }
@@ -187,7 +215,7 @@ fn of_input(word: &str) -> Option<Meaning> {
         "scen" => last("the scenario"),
         "plan" => last("the plan text"),
         "cert" => last("the certificate"),
-        "events" => last("the event text"),
+        "events" => last("the events or requests"),
         _ => None,
     }
 }
@@ -215,6 +243,29 @@ fn of_bound(word: &str) -> Option<Meaning> {
     match word {
         "bound" => last("no valid plan costs less than # ticks"),
         _ => None,
+    }
+}
+
+fn of_request(word: &str) -> Option<Meaning> {
+    match word {
+        "E1" => last("line # of the input is no request"),
+        "E3" => last("the agent in line # of the input is out of range"),
+        _ => None,
+    }
+}
+
+fn of_holder(word: &str) -> Option<Meaning> {
+    match word {
+        "by" => last("agent # has to leave the next cell first"),
+        _ => None,
+    }
+}
+
+/// Returns whether a word is a cell, as the program prints one: its column and its row.
+pub fn is_cell(word: &str) -> bool {
+    match word.split_once(',') {
+        Some((column, row)) => is_number(column) && is_number(row),
+        None => false,
     }
 }
 

@@ -106,19 +106,16 @@ fn explains_why_a_plan_cannot_be_played(rt: HostRuntime) -> Result<(), Fail> {
         ("count", "the number of agents of the plan text isn't K"),
         (
             "E1 2",
-            "line 2 of the event text has another shape than it must have",
+            "line 2 of the events or requests has another shape than it must have",
         ),
         (
             "E2 3",
-            "the event text ends where line 3 should begin, or before its end",
+            "the events or requests end where line 3 should begin, or before its end",
         ),
-        (
-            "E3 4",
-            "the agent in line 4 of the event text is out of range",
-        ),
+        ("E3 4", "the agent in line 4 of the events is out of range"),
         (
             "E4 5",
-            "in the event text something follows the line 'end'; it begins at line 5",
+            "after the events something follows the line 'end'; it begins at line 5",
         ),
         (
             "V1 0",
@@ -152,7 +149,7 @@ fn explains_which_input_cannot_be_read(rt: HostRuntime) -> Result<(), Fail> {
         ("scen", "the scenario"),
         ("plan", "the plan text"),
         ("cert", "the certificate"),
-        ("events", "the event text"),
+        ("events", "the events or requests"),
     ];
     Ok(assert_explained(&rt, rt.alloc(), first, &others)?)
 }
@@ -311,6 +308,50 @@ fn explains_answers(rt: HostRuntime) -> Result<(), Fail> {
 }
 
 #[test]
+fn explains_lines_of_a_played_plan(rt: HostRuntime) -> Result<(), Fail> {
+    let first = ("", "");
+    let others = [
+        (
+            "tick 12",
+            "the rows below show where the agents are at tick 12",
+        ),
+        ("end 31", "the makespan is 31 ticks"),
+    ];
+    Ok(assert_explained(&rt, rt.alloc(), first, &others)?)
+}
+
+#[test]
+fn explains_replies(rt: HostRuntime) -> Result<(), Fail> {
+    let first = ("", "");
+    let others = [
+        ("go 12 3,0", "agent 12 goes on, into cell 3,0"),
+        (
+            "hold 0 by 7",
+            "agent 0 has to wait, and may ask again: agent 7 has to leave the next cell first",
+        ),
+        ("done 5", "agent 5 is in its last cell, and stays there"),
+        (
+            "cycle",
+            "the agents in full cycles, who wait for ever: none",
+        ),
+        ("cycle 4", "the agents in full cycles, who wait for ever: 4"),
+        (
+            "cycle 1 2 10",
+            "the agents in full cycles, who wait for ever: 1 2 10",
+        ),
+        (
+            "error E1 5",
+            "the line isn't answered, and changes nothing: line 5 of the input is no request",
+        ),
+        (
+            "error E3 2",
+            "the line isn't answered, and changes nothing: the agent in line 2 of the input is out of range",
+        ),
+    ];
+    Ok(assert_explained(&rt, rt.alloc(), first, &others)?)
+}
+
+#[test]
 fn explains_lack_of_memory(rt: HostRuntime) -> Result<(), Fail> {
     let first = ("F6", "there isn't enough memory");
     let others = [("", "")];
@@ -342,6 +383,31 @@ fn knows_no_other_line(rt: HostRuntime) -> Result<(), Fail> {
         "limit bound 5",
         "cost -1",
         "cost",
+        "go 1",
+        "go 1 2",
+        "go 1 2,",
+        "go 1 ,2",
+        "go 1 2,3,4",
+        "go 1 2,03",
+        "go 2,3 1",
+        "go 1 2,3 4",
+        "hold 1",
+        "hold 1 by",
+        "hold 1 2",
+        "hold 1 by 2 3",
+        "done",
+        "done 1 2",
+        "cycle ",
+        "cycle x",
+        "cycle 1 2 x",
+        "error",
+        "error E1",
+        "error E2 3",
+        "tick",
+        "end",
+        "#",
+        "@",
+        "go # @",
     ];
     for line in lines {
         assert_unknown(&rt, rt.alloc(), line)?;
