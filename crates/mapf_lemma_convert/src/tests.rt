@@ -1,5 +1,6 @@
 //! Certificates of version 2 and the converted ones, by the page of the format.
 use crate::converter::{ConvertFault, convert_cert_to_lemmas};
+use mapf_certificate::CertFault;
 use mapf_model::Grid;
 use std::alloc::{AllocError, Global};
 use std::process::Abort;
@@ -25,6 +26,23 @@ fn expect_converted(
         Some(grid) => match convert_cert_to_lemmas(alloc, old.as_bytes(), &grid) {
             Ok(text) => assert_eq!(rt; text.as_slice(), expected.as_bytes()),
             Err(fault) => assert_eq!(rt; fault, ConvertFault::TooLarge),
+        },
+        None => assert!(rt; false),
+    }
+    Ok(())
+}
+
+fn expect_refused(
+    rt: &impl Abort,
+    alloc: Global,
+    old: &str,
+    fault: CertFault,
+) -> Result<(), AllocError> {
+    let grid = square(alloc, 3)?;
+    match grid {
+        Some(grid) => match convert_cert_to_lemmas(alloc, old.as_bytes(), &grid) {
+            Ok(_) => assert!(rt; false),
+            Err(found) => assert_eq!(rt; found, ConvertFault::Text(fault)),
         },
         None => assert!(rt; false),
     }
@@ -62,6 +80,36 @@ fn a_leaf_uses_the_deepest_lemma_of_each_agent(rt: HostRuntime) -> Result<(), Fa
          one 0 1 1 -\nnot 0 1,0 1\nat 0,0 0 2\none 1 2 1 -\nnot 1 1,0 1\nnot 1 1,0 0,0 0\n\
          at 1,0 0 inf\nswap 0 1 0,0 1,0 0\nvertex 0 1 0,0 1\nleaf 1 0 -\nuse 1\nleaf 2 0 -\n\
          use 0\nuse 2\nvertex 0 1 1,0 1\nleaf 2 0 -\nuse 3\nuse 4\nleaf 1 0 -\nuse 5\nend\n",
+    )?;
+    Ok(())
+}
+
+#[test]
+fn the_error_of_a_text_is_told(rt: HostRuntime) -> Result<(), Fail> {
+    let alloc = rt.alloc();
+    expect_refused(
+        &rt,
+        alloc,
+        "mapf-cert 2\nagent 2\nclaim cost 5\nleaf 0\nend\n",
+        CertFault::K1(2),
+    )?;
+    expect_refused(
+        &rt,
+        alloc,
+        "mapf-cert 2\nagents 2\nclaim cost 5\nleaf 0\n",
+        CertFault::K2(5),
+    )?;
+    expect_refused(
+        &rt,
+        alloc,
+        "mapf-cert 2\nagents 201\nclaim cost 5\nleaf 0\nend\n",
+        CertFault::K3(2),
+    )?;
+    expect_refused(
+        &rt,
+        alloc,
+        "mapf-cert 2\nagents 2\nclaim cost 5\nleaf 0\nend\nend\n",
+        CertFault::K4(6),
     )?;
     Ok(())
 }
