@@ -50,7 +50,7 @@ extern "C" {
 #define MAPF_C1 11u  /* the plan text has the error that `defect` tells */
 #define MAPF_C2 12u  /* the certificate has it */
 #define MAPF_C3 13u  /* one of these two is for another number of agents */
-#define MAPF_C4 14u  /* the certificate's claim doesn't fit the answer of the plan text */
+#define MAPF_C4 14u  /* the certificate's claim doesn't fit the plan text, or that has a limit of version 1 */
 #define MAPF_C5 15u  /* the plan isn't valid: `defect` tells why */
 #define MAPF_C6 16u  /* what stands in the line `first` of the certificate is wrong: a split, */
 #define MAPF_C7 17u  /* a label, */
@@ -65,8 +65,7 @@ extern "C" {
 #define MAPF_SCEN 602u
 #define MAPF_PLAN 603u
 #define MAPF_CERT 604u
-/* Or, of MAPF_F3 alone, why a plan text has no plan to judge: it says that there is none, or is for another number of
-   agents. */
+/* Or, of MAPF_F3 alone, why a plan text has no plan to judge: it holds none, or is for another number of agents. */
 #define MAPF_NO_PLAN 605u
 #define MAPF_OTHER_COUNT 606u
 
@@ -117,7 +116,7 @@ typedef struct mapf_answer {
 typedef struct mapf_question {
     uint32_t agents;       /* how many agents of the scenario count, 1 to 200 */
     uint32_t search;       /* MAPF_CBS or MAPF_CBSH */
-    uint32_t limit;        /* how many splits the search may make, 0 to 100,000 */
+    uint32_t limit;        /* how many splits the search may make, 0 to 100,000; MAPF_CBSH may make 300 all the same */
     uint32_t improvements; /* how often MAPF_CBSH improves its first plan, 0 to 1,000,000; say 50 * agents */
 } mapf_question;
 
@@ -167,9 +166,10 @@ uint32_t mapf_version(void);
    the optimal one is refused beside its certificate. For a bound in place of this: compare the costs of mapf_validate
    and mapf_solve; or, in a certificate of version 3, write `claim bound B` for `claim cost B`, then it is MAPF_WITHIN.
 
-   Proved: a verdict is true of the problem that the map and the scenario spell, whoever wrote the other two texts; an
-   error is one that the texts have; and what has to be accepted is accepted, unless a text is too long or memory runs
-   out. That the error is the first one, and the line of C6 to C10, is tested. */
+   Proved: a verdict is true of the problem that the map and the scenario spell, whoever wrote the other two texts; what
+   has to be accepted is accepted, unless a text is too long or memory runs out; and an error is one that the texts
+   have. Which of P1 to P4, of K1 to K4 and, in version 3, of C6 to C10 it is, the lines of these, and that an error is
+   the first one, are tested. */
 mapf_answer mapf_check(const char *map, size_t map_length, const char *scen, size_t scen_length, uint32_t agents,
                        const char *plan, size_t plan_length, const char *cert, size_t cert_length);
 
@@ -177,21 +177,23 @@ mapf_answer mapf_check(const char *map, size_t map_length, const char *scen, siz
    valid, or has the error that MAPF_F3 tells.
 
    Proved: a plan is found valid if and only if it is, unless a text is too long or memory runs out; `cost` is its sum
-   of costs; and an error is one that the texts have. That it is the first one is tested. */
+   of costs; and an error is one that the texts have. Which of P1 to P4 it is, its line, and that it is the first one,
+   are tested. */
 mapf_answer mapf_validate(const char *map, size_t map_length, const char *scen, size_t scen_length, uint32_t agents,
                           const char *plan, size_t plan_length);
 
 /* Solves the problem of the first agents of a scenario, and writes a plan text, in version 2, and a certificate, in
-   version 2 or, by MAPF_CBSH, 3. Nothing but `limit` bounds the time and the memory that a search takes.
+   version 2 or, by MAPF_CBSH, 3. Nothing but `limit` and `improvements` bounds the time and the memory that a search
+   takes.
 
    If there is an answer and both texts fit into their buffers, they are written to their fronts. Else nothing is
    written, and the lengths say how much room they need: a second call with enough room searches again, answers the
    same, and writes these texts. Certificates of 60 agents may have some megabytes. Bytes behind a text stay as they
    were.
 
-   Proved: the answer is true of the problem that the map and the scenario spell, mapf_check accepts the two texts with
-   it, an error is one that these have, and nothing but the two texts is written. That the same call answers the same is
-   tested. */
+   Proved: the answer is true of the problem that the map and the scenario spell; mapf_check accepts the two texts with
+   it, unless one is too long or memory runs out; an error is one that the map or the scenario has; and nothing but the
+   two texts is written. That the same call answers the same is tested. */
 mapf_solution mapf_solve(const char *map, size_t map_length, const char *scen, size_t scen_length,
                          mapf_question question, char *plan, size_t plan_room, char *cert, size_t cert_room);
 
@@ -200,7 +202,7 @@ mapf_solution mapf_solve(const char *map, size_t map_length, const char *scen, s
    none or one, which is freed first, also before an error. A new one is freed by mapf_dispatcher_free.
 
    Proved: the plan is valid; each valid plan gets a dispatcher, unless a text is too long or memory runs out; and an
-   error is one that the texts have. */
+   error is one that the texts have. Which of P1 to P4 it is, and its line, is tested. */
 mapf_fault mapf_dispatcher_new(mapf_dispatcher *dispatcher, const char *map, size_t map_length, const char *scen,
                                size_t scen_length, uint32_t agents, const char *plan, size_t plan_length);
 

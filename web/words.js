@@ -85,9 +85,10 @@ const rules3 = {
     + " without a conflict must lead from joint cells to joint cells. Somewhere it isn't so."],
   C8: ["section 9, rule 9", "The bound of each leaf must be at least what its tree has to show: at one leaf it isn't."],
   C9: ["section 9, rule 7", clash],
-  C10: ["section 9, rules 1, 6 and 8", "Prices and constraints must be of free cells, of an edge adjacent ones. A lemma"
-    + " must be used after its own text, for agents of the tree, where each of its constraints is met. In a group the"
-    + " weights of an agent's lemmas must add up to at most the divisor. One line isn't so."],
+  C10: ["section 9, rules 1, 6 and 8", "A line isn't allowed. Prices and constraints must be of free cells, of an edge"
+    + " adjacent ones, and the agents of a lemma must differ. A lemma must be used after its own text, for agents of the"
+    + " tree, with its list, where each of its constraints is met. In a group the weights of an agent's lemmas must add"
+    + " up to at most the divisor. A split on two costs must follow from its lemma."],
 };
 
 // What has to be corrected, where another certificate alone doesn't help.

@@ -23,7 +23,7 @@ pub struct ProblemFiles<'a> {
 }
 
 /// By which search a problem is solved, how many splits it may make, 0 to 100,000, and how many improvements of its
-/// first plan the second search tries, 0 to 1,000,000.
+/// first plan the second search tries, 0 to 1,000,000. The second search may make 300 splits all the same.
 #[derive(Clone, Copy)]
 pub struct SolveOptions {
     pub search: Search,

@@ -1,12 +1,13 @@
-//! A second line about an error or a refusal, for people: what it means, and in which file. It is written where standard
-//! error is a terminal, and nowhere else.
+//! A second line about an error or a refusal, for people: what it means, and in which file. It is written where
+//! standard error is a terminal, and nowhere else.
 use mapf_app::{CheckFault, Fault, Input, Job, Output, PlayFault, tell_run};
 use mapf_explain::explain;
 use mapf_model::{BytesSink, OutOfMemory};
 use std::alloc::Global;
 use std::io::{IsTerminal, Write};
 
-/// Writes in words why the job ended, with the path of the file that has the error. If that fails, nothing becomes of it.
+/// Writes in words why the job ended, with the path of the file that has the error. If that fails, nothing becomes of
+/// it.
 pub fn tell_in_words(rt: &HostRuntime, job: &Job, fault: &Fault) {
     if !rt.stderr().is_terminal() {
         return;

@@ -63,7 +63,8 @@ impl Watcher for Progress<'_> {
     }
 }
 
-// Returns by how many per cent a plan of this cost is dearer than the bound, and the tenths of a per cent, rounded down.
+// Returns by how many per cent a plan of this cost is dearer than the bound, and the tenths of a per cent, rounded
+// down.
 fn gap(cost: u64, bound: u64) -> (u64, u64) {
     let tenths = cost.saturating_sub(bound).saturating_mul(1000) / bound.max(1);
     (tenths / 10, tenths % 10)
