@@ -101,7 +101,7 @@ fn of_execution(word: &str) -> Option<Meaning> {
         "hold" => then("agent # has to wait, and may ask again", Place::Holder),
         "done" => last("agent # is in its last cell, and stays there"),
         "cycle" => then(
-            "the agents in full cycles, who wait for ever:",
+            "the agents in full cycles, who wait for ever: ",
             Place::Agents,
         ),
         "error" => then(
