@@ -1,5 +1,5 @@
-//! The dispatcher: may an agent that follows a plan move on? The run of `dispatch` makes one, and asks it at each
-//! event.
+//! The dispatcher: may an agent that follows a plan move on? The runs of `dispatch` and `follow` and the calls for C
+//! make one, and ask it.
 ghost use Rattle.std.specs.Prelude.{◌≡◌, ◌<◌, ◌≤◌, ◌+◌, ◌*◌, ◌^◌, ◌++◌, ◌↔◌, ℕ, All, Some, None, min, length};
 ghost use Rattle.std.specs.Prelude.{IfOk, IfSome, IsTrue, OnOk, MatchOption, slice_get};
 ghost use Rattle.std.specs.List.Sorted.{IsNonDecreasingBy};
@@ -149,7 +149,7 @@ impl Dispatch {
         })
     }
 
-    /// Returns how many agents there are: 1 to 200.
+    /// Returns how many agents there are: at most 200.
     pub fn agents(&self) -> u32
         ensures count { result ≡ length self.now.numbers }
         ensures few { result ≤ most_agents }

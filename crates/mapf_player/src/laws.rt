@@ -1,5 +1,6 @@
 //! What follows from the definitions of played texts, visits and replies, as laws. No code calls them; they are there
 //! to be read.
+ghost use Rattle.mapf_player.specs.Cycles.{FullCyclesStay};
 ghost use Rattle.mapf_player.specs.DispatchLaws.{CellsAreAPrefix, NobodyEntersAnOccupiedCell, NoTwoAgentsMeet};
 ghost use Rattle.mapf_player.specs.DispatchLaws.{EveryAgentIsAnswered, ProgressStaysInOrder, RepliesAreOne};
 ghost use Rattle.mapf_player.specs.DispatchLaws.{ReplyTextsAreOne};
@@ -34,6 +35,11 @@ pub fn agents_stay_apart()
     ensures apart { NoTwoAgentsMeet }
     // No reply sends an agent into a cell in which another is.
     ensures free { NobodyEntersAnOccupiedCell }
+{}
+
+/// Agents that stand in full cycles wait for ever.
+pub fn full_cycles_stay()
+    ensures { FullCyclesStay }
 {}
 
 /// Whatever lines come while agents follow a valid plan, no two are ever in one cell, and each enters the cells of its
