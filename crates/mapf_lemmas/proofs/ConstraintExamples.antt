@@ -3,8 +3,9 @@ use Rattle.std.proofs.Common.{ℕ, ◌<◌, ◌≤◌, [], ◌∷◌, refl, sym,
 use Rattle.std.proofs.lemmas.List.Elements.{Contains-get_or}
 use Rattle.std.proofs.lemmas.Option.{same_Some}
 use Rattle.mapf_lemmas.specs.declared.constraint.PathConstraint.{PathConstraint}
-use Rattle.mapf_lemmas.specs.declared.constraint.PathConstraint.TheVariants.{NotAt, Clear, Most, Least}
+use Rattle.mapf_lemmas.specs.declared.constraint.PathConstraint.TheVariants.{NotAt, NotMove, Clear, Most, Least}
 use Rattle.mapf_lemmas.specs.Examples.{task_under, ClearForbidsRest, NotForbidsRestUntilThen, LeastAllowsRestAtItsTick, MostBarsWhoIsLate, MostMeetsNoNot, CostSplitsByTheCost, crossing_statement, crossing_scope, unconstrained, CostsNeedsItsLemma, CostsRaisesTheOther}
+use Rattle.mapf_lemmas.specs.Examples.{EqualMeets, StricterMeets, LaterClearMeetsNoNot}
 use Rattle.mapf_lemmas.specs.Cases.{BoundsTwo}
 use Rattle.mapf_lemmas.specs.SingleLabels.{IsBarred, ForbidsRest, Excludes, MayRest}
 use Rattle.mapf_lemmas.specs.Statements.{Statement, Meets}
@@ -54,6 +55,19 @@ most_meets_no_not = (
   omega arith,
   λ away. away refl,
 )
+
+pub equal_meets : EqualMeets
+equal_meets (NotAt cell tick) = (refl, refl)
+equal_meets (NotMove from to tick) = (refl, refl, refl)
+equal_meets (Clear cell tick) = (refl, omega arith)
+equal_meets (Most ticks) = omega arith
+equal_meets (Least ticks) = omega arith
+
+pub stricter_meets : StricterMeets
+stricter_meets = ((refl, omega arith), (refl, omega arith), (refl, omega arith), omega arith, omega arith)
+
+pub later_clear_meets_no_not : LaterClearMeetsNoNot
+later_clear_meets_no_not meets = let late = meets.1 in omega arith
 
 pub cost_splits_by_the_cost : CostSplitsByTheCost
 cost_splits_by_the_cost = (refl, refl, refl, refl)

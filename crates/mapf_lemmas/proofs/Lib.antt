@@ -12,3 +12,5 @@ pub mod SmallLists
 pub mod CertificateExamples
 pub mod CaseExamples
 pub mod ConstraintExamples
+pub mod PriceExamples
+pub mod JointExamples

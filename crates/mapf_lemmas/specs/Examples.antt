@@ -3,21 +3,21 @@ use Rattle.std.specs.Prelude.{◌≡◌, ℕ, List, [], ◌∷◌, Some, None}
 use Rattle.mapf_lemmas.specs.declared.constraint.PathConstraint.{PathConstraint}
 use Rattle.mapf_lemmas.specs.declared.constraint.PathConstraint.TheVariants.{NotAt, Clear, Most, Least}
 use Rattle.mapf_lemmas.specs.declared.joint.JointEntry.{JointEntry}
-use Rattle.mapf_lemmas.specs.declared.joint.JointState.TheVariants.{Both}
-use Rattle.mapf_lemmas.specs.declared.price.Price.TheVariants.{Cell}
+use Rattle.mapf_lemmas.specs.declared.joint.JointState.TheVariants.{Both, SecondAlone}
+use Rattle.mapf_lemmas.specs.declared.price.Price.TheVariants.{Cell, Edge}
 use Rattle.mapf_lemmas.specs.declared.split.Split.TheVariants.{Vertex, Cost as CostSplit, Costs}
 use Rattle.mapf_lemmas.specs.Cases.{CaseTree, Branch, Leaf, left_constraints, right_constraints, IsProperSplit}
 use Rattle.mapf_lemmas.specs.Constraints.{Satisfies}
-use Rattle.mapf_lemmas.specs.Groups.{LeafUses, Scope}
-use Rattle.mapf_lemmas.specs.JointLabels.{joint_entries_of, AreSoundTogether}
+use Rattle.mapf_lemmas.specs.Groups.{Group, LeafUses, Scope, Counts, LeafLabels, added, leaf_bound}
+use Rattle.mapf_lemmas.specs.JointLabels.{PairTask, joint_entries_of, PairEntries, IsSoundJointEntry, AreSoundTogether}
 use Rattle.mapf_lemmas.specs.Lemmas.{Lemma, One, Two, NeverArrive, ByCases, pair_of, scope_of, LemmaShows}
 use Rattle.mapf_lemmas.specs.Lemmas.{CertificateShows}
-use Rattle.mapf_lemmas.specs.Prices.{PriceList, no_list}
+use Rattle.mapf_lemmas.specs.Prices.{PriceList, no_list, paid, cell_price, edge_price, rest_price}
 use Rattle.mapf_lemmas.specs.SingleLabels.{Task, IsBarred, MayRest}
-use Rattle.mapf_lemmas.specs.Statements.{Statement, IsMet}
+use Rattle.mapf_lemmas.specs.Statements.{Statement, Meets, IsMet}
 use Rattle.mapf_model.specs.declared.item.Claim.TheVariants.{Cost, Impossible}
-use Rattle.mapf_model.specs.declared.label.Label.TheVariants.{Ticks}
-use Rattle.mapf_model.specs.Examples.{open_square, neighbours, crossing, agent, entry}
+use Rattle.mapf_model.specs.declared.label.Label.TheVariants.{Ticks, Never}
+use Rattle.mapf_model.specs.Examples.{open_square, three_cells, neighbours, crossing, agent, entry}
 use Rattle.mapf_model.specs.Labels.{entries_of}
 
 -- an entry of two crossing agents at their starts
@@ -139,6 +139,21 @@ MostMeetsNoNot =
     (IsMet (Most 2 ∷ []) (NotAt 5 3) → ⊥) × Satisfies (3 ∷ 4 ∷ 5 ∷ []) 2 (Most 2)
     × (Satisfies (3 ∷ 4 ∷ 5 ∷ []) 2 (NotAt 5 3) → ⊥)
 
+-- each constraint meets an equal one
+abbrev pub EqualMeets : Type 0
+EqualMeets = (constraint : PathConstraint) → Meets constraint constraint
+
+-- that the agent isn't in a cell from tick 3 on meets the constraint that it isn't there at tick 3, or at tick 4, or
+-- from tick 4 on; a cost of at most 3 meets one of at most 4, and a cost of at least 4 meets one of at least 3
+abbrev pub StricterMeets : Type 0
+StricterMeets =
+    Meets (Clear 5 3) (NotAt 5 3) × Meets (Clear 5 3) (NotAt 5 4) × Meets (Clear 5 3) (Clear 5 4)
+    × Meets (Most 3) (Most 4) × Meets (Least 4) (Least 3)
+
+-- that the agent isn't in a cell from tick 4 on doesn't meet the constraint that it isn't there at tick 3
+abbrev pub LaterClearMeetsNoNot : Type 0
+LaterClearMeetsNoNot = Meets (Clear 5 4) (NotAt 5 3) → ⊥
+
 -- no agent has a constraint
 abbrev pub unconstrained : ℕ → List PathConstraint
 unconstrained agent = []
@@ -172,3 +187,71 @@ CostsRaisesTheOther =
     (left_constraints crossing unconstrained (Costs 0 2 1 3 0) 0 ≡ Most 2 ∷ [])
     × (left_constraints crossing unconstrained (Costs 0 2 1 3 0) 1 ≡ Least 3 ∷ Clear 5 2 ∷ [])
     × (right_constraints unconstrained (Costs 0 2 1 3 0) 1 ≡ [])
+
+-- an agent that is at its goal for good from tick 3 on pays the price of the goal at tick 3 when it comes, and not once
+-- more for its rest; one that is there from tick 2 on pays it for its rest
+abbrev pub RestPaysLaterPrices : Type 0
+RestPaysLaterPrices =
+    (cell_price (Cell 5 3 1 ∷ []) 5 3 ≡ 1) × (rest_price (Cell 5 3 1 ∷ []) 5 3 ≡ 0)
+    × (rest_price (Cell 5 3 1 ∷ []) 5 2 ≡ 1) × (paid (Cell 5 3 1 ∷ []) (3 ∷ 4 ∷ 5 ∷ []) ≡ 1)
+
+-- the price of an edge at tick 0 is the price of a move along it at this tick in each direction, and a path pays it in
+-- each; who waits doesn't pay it, and who moves at tick 1 doesn't
+abbrev pub EdgesCostInBothDirections : Type 0
+EdgesCostInBothDirections =
+    (edge_price (Edge 3 4 0 1 ∷ []) 3 4 0 ≡ 1) × (edge_price (Edge 3 4 0 1 ∷ []) 4 3 0 ≡ 1)
+    × (paid (Edge 3 4 0 1 ∷ []) (3 ∷ 4 ∷ []) ≡ 1) × (paid (Edge 3 4 0 1 ∷ []) (4 ∷ 3 ∷ []) ≡ 1)
+    × (paid (Edge 3 4 0 1 ∷ []) (3 ∷ []) ≡ 0) × (paid (Edge 3 4 0 1 ∷ []) (3 ∷ 3 ∷ 4 ∷ []) ≡ 0)
+
+-- a price of 1 for the middle of the square at tick 1, where a tick is worth 2
+abbrev pub halves_list : PriceList
+halves_list = record { unit = 2; prices = Cell 4 1 1 ∷ [] }
+
+-- each of two agents costs at least the one number, and a lemma of both counts the other
+abbrev pub crossing_labels : ℕ → ℕ → LeafLabels
+crossing_labels floor counted =
+    record { floor = λ agent. Ticks floor; agents = λ lemma. 0 ∷ 1 ∷ []; counted = λ lemma. Ticks counted }
+
+-- a group that counts half of what its lemma adds
+abbrev pub half_group : Group
+half_group = record { divisor = 2; uses = record { lemma = 0; weight = 1 } ∷ [] }
+
+-- quotients are rounded up: where a tick is worth 2, two agents that cost at least 5 each, less a price of 1, cost at
+-- least 5 ticks together; and half of the 1 that a lemma of 5 adds to 2 + 2 is 1
+abbrev pub BoundsRoundUp : Type 0
+BoundsRoundUp =
+    (leaf_bound crossing_scope two_singles halves_list (crossing_labels 5 10) ≡ 5)
+    × (added (crossing_labels 2 5) half_group ≡ 1)
+
+-- at a leaf with a list of prices, by which a tick is worth 2, a lemma without a list counts twice its bound
+abbrev pub UnpricedCountsInUnits : Type 0
+UnpricedCountsInUnits = Counts (Some 0) 2 crossing_statement (Ticks 10)
+
+-- in a row of three cells the first agent's goal is the middle, and the second agent goes from the left to the right
+abbrev pub row_pair : PairTask
+row_pair = record {
+  grid = three_cells;
+  list = no_list;
+  first = agent 1 1;
+  second = agent 0 2;
+  first_constraints = [];
+  second_constraints = [];
+}
+
+-- an entry of the second agent at its start, when the first has arrived
+abbrev pub alone_at_start : JointEntry
+alone_at_start = record { state = SecondAlone 0; tick = 0; label = Ticks 3 }
+
+-- labels of both agents: that entry, and no other
+abbrev pub alone_entries : PairEntries
+alone_entries =
+    record { first = entries_of []; second = entries_of []; joint = joint_entries_of (alone_at_start ∷ []) }
+
+-- when the first agent has arrived, the second may not go into its goal and has to wait, so 3 is a sound label of its
+-- start, though the distance is 2
+abbrev pub AloneAvoidsTheOthersGoal : Type 0
+AloneAvoidsTheOthersGoal = AreSoundTogether row_pair alone_entries
+
+-- when the first agent has arrived, the second is never in its goal, so even an infinite label is sound there
+abbrev pub AloneIsNeverInTheOthersGoal : Type 0
+AloneIsNeverInTheOthersGoal = IsSoundJointEntry row_pair alone_entries (SecondAlone 1) 0 Never

@@ -116,7 +116,7 @@ pub record IsGroup (scope : Scope) (constraints : ℕ → List PathConstraint) (
 abbrev pub ShareNoAgent : LeafLabels → Group → Group → Type 0
 ShareNoAgent labels one other = (agent : ℕ) → (load labels one agent ≡ 0) ⊎ (load labels other agent ≡ 0)
 
--- the leaf names lists and lemmas that it may name, one lemma for an agent alone at most, and groups without a common
+-- the leaf names a list and lemmas that it may name, one lemma for an agent alone at most, and groups without a common
 -- agent; and the labels give what they count
 pub record IsProperLeaf (scope : Scope) (constraints : ℕ → List PathConstraint) (leaf : LeafUses) (list : PriceList)
     (labels : LeafLabels) : Type 0 where
