@@ -1,6 +1,6 @@
 //! Which constraints stand at a node of a tree of cases. The judge of the tree adds and takes away what the splits
 //! above the node add; the judges of uses and splits ask whether the constraints of a lemma are met.
-ghost use Rattle.std.specs.Prelude.{◌≡◌, ◌↔◌, ◌-◌, ◌∷◌, ◌++◌, [], List, length, OnOk, OnErr, IsTrue};
+ghost use Rattle.std.specs.Prelude.{◌≡◌, ◌≤◌, ◌↔◌, ◌-◌, ◌∷◌, ◌++◌, [], List, length, OnOk, OnErr, IsTrue};
 
 use crate::addition::Addition;
 use crate::clear_index::{ClearIndex, Earliest};
@@ -112,9 +112,11 @@ impl Standing {
         Ok(())
     }
 
-    /// Takes away what was added last, again and again until so many additions stand.
+    /// Takes away what was added last, again and again until at most so many additions stand.
     pub fn take_back_to(&mut self, count: usize)
-        ensures { (more rest : List Addition) → self.old ≡ more ++ rest → length rest ≡ count → self.new ≡ rest }
+        ensures taken { (more rest : List Addition) → self.old ≡ more ++ rest → length rest ≡ count
+            → self.new ≡ rest }
+        ensures kept { length self.old ≤ count → self.new ≡ self.old }
     {
         while self.count() > count {
             self.take_last();

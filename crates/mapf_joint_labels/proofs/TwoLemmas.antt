@@ -100,11 +100,11 @@ module _ (pair : Pair) (own : IsPair pair) where
   shows_nothing (First place) bad problem lists i j constraints number statement of frees show =
       let sound = sound_of problem lists i j constraints number statement of show in
       bad.unsound (IsSoundAmong-at pair.first_task.now pair.first.now own.rising_first place bad.entry bad.is_entry sound.first)
-  shows_nothing (Second place) bad problem lists i j constraints number statement of frees show =
+  shows_nothing (Second place) (firsts, bad) problem lists i j constraints number statement of frees show =
       let sound = sound_of problem lists i j constraints number statement of show in
       let second = subst (λ (t : Task). AreSound t (entries_of pair.second.now)) (second_is pair own) sound.second in
       bad.unsound (IsSoundAmong-at pair.second_task.now pair.second.now own.rising_second place bad.entry bad.is_entry second)
-  shows_nothing (Joint place) bad problem lists i j constraints number statement of frees show =
+  shows_nothing (Joint place) (firsts, seconds, bad) problem lists i j constraints number statement of frees show =
       let sound = sound_of problem lists i j constraints number statement of show in
       let entries = pair.joint.now in
       let entry = bad.entry in

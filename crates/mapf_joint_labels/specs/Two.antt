@@ -5,10 +5,11 @@ use Rattle.mapf_lemmas.specs.declared.joint.JointState.TheVariants.{Both}
 use Rattle.mapf_lemmas.specs.JointLabels.{AreFreeCells, IsJointLabel}
 use Rattle.mapf_lemmas.specs.Lemmas.{AreConstraintsOn, TwoShow}
 use Rattle.mapf_lemmas.specs.Prices.{PriceList, cell_price}
+use Rattle.mapf_lemmas.specs.SingleLabels.{AreSound}
 use Rattle.mapf_lemmas.specs.Statements.{Statement, IsListOf, constraints_of}
 use Rattle.mapf_model.specs.declared.label.Label.{Label}
 use Rattle.mapf_model.specs.declared.label.Label.TheVariants.{Ticks}
-use Rattle.mapf_model.specs.Labels.{label_plus}
+use Rattle.mapf_model.specs.Labels.{entries_of, label_plus}
 use Rattle.mapf_model.specs.Plan.{Instance}
 use Rattle.mapf_single_labels.specs.Tasks.{IsUnsoundAt as IsSingleUnsoundAt}
 use Rattle.mapf_joint_labels.specs.declared.pair.Pair.{Pair}
@@ -60,11 +61,19 @@ ShowsBound pair bound =
     × TwoShow problem lists i j constraints list_number (lists_of pair)
     (statement_of_two i j constraints list_number bound)
 
--- which entry is the first that isn't sound
+-- the entries of the first agent are sound, and those of the second one
+abbrev pub AreFirstSound : Pair → Type 0
+AreFirstSound pair = AreSound pair.first_task.now (entries_of pair.first.now)
+
+abbrev pub AreSecondSound : Pair → Type 0
+AreSecondSound pair = AreSound pair.second_task.now (entries_of pair.second.now)
+
+-- which entry is the first that isn't sound; those of the kinds before it are
 abbrev pub IsTwoFault : Pair → TwoFault → Type 0
 IsTwoFault pair (First place) = IsSingleUnsoundAt pair.first_task.now pair.first.now place
-IsTwoFault pair (Second place) = IsSingleUnsoundAt pair.second_task.now pair.second.now place
-IsTwoFault pair (Joint place) = IsUnsoundAt pair place
+IsTwoFault pair (Second place) =
+    AreFirstSound pair × IsSingleUnsoundAt pair.second_task.now pair.second.now place
+IsTwoFault pair (Joint place) = AreFirstSound pair × AreSecondSound pair × IsUnsoundAt pair place
 
 -- the lemma of these two agents has no statement
 abbrev pub ShowsNothing : Pair → Type 0

@@ -30,7 +30,9 @@ impl Model for JointMarks {
 
 impl JointMarks {
     /// Returns marks of no cells, which take no memory.
-    pub fn new(alloc: Global) -> JointMarks {
+    pub fn new(alloc: Global) -> JointMarks
+        ensures { length result.runs ≡ 0 }
+    {
         JointMarks {
             runs: CellRuns::new(alloc),
             tick: 0,

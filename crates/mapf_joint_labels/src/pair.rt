@@ -41,7 +41,11 @@ pub struct PairMarks {
 
 impl PairMarks {
     /// Returns marks of no cells, which take no memory.
-    pub fn new(alloc: Global) -> PairMarks {
+    pub fn new(alloc: Global) -> PairMarks
+        ensures first { length result.first.offsets ≡ 0 }
+        ensures second { length result.second.offsets ≡ 0 }
+        ensures joint { length result.joint.runs ≡ 0 }
+    {
         PairMarks {
             first: EntryMarks::new(alloc),
             second: EntryMarks::new(alloc),

@@ -37,7 +37,9 @@ impl Model for EntryMarks {
 
 impl EntryMarks {
     /// Returns marks of no cells, which take no memory.
-    pub fn new(alloc: Global) -> EntryMarks {
+    pub fn new(alloc: Global) -> EntryMarks
+        ensures { length result.offsets ≡ 0 }
+    {
         EntryMarks {
             offsets: Vec::new(alloc),
             first: 0,

@@ -1,6 +1,6 @@
 //! The constraints that a lemma has for one agent, so that they are found fast. The judges of entries ask for those of
 //! a state or of a step.
-ghost use Rattle.std.specs.Prelude.{◌≡◌, ◌↔◌, ◌++◌, ◌∷◌, [], Contains, IfOk, OnOk, IsTrue};
+ghost use Rattle.std.specs.Prelude.{◌≡◌, ◌↔◌, ◌++◌, ◌∷◌, [], Contains, IfOk, OnErr, OnOk, IsTrue};
 ghost use Rattle.mapf_lemmas.specs.Constraints.{demanded_cost};
 ghost use Rattle.mapf_lemmas.specs.Statements.{constraints_of};
 ghost use Rattle.mapf_lemmas.specs.declared.constraint.PathConstraint.TheVariants.{NotMove};
@@ -73,7 +73,8 @@ impl TaskConstraints {
 
     /// Adds a constraint.
     pub fn add(&mut self, constraint: &PathConstraint) -> Result<(), OutOfMemory>
-        ensures { OnOk result (self.new ≡ self.old ++ constraint.now ∷ []) }
+        ensures added { OnOk result (self.new ≡ self.old ++ constraint.now ∷ []) }
+        ensures unchanged { OnErr result (self.new ≡ self.old) }
     {
         self.listed.reserve(1)?;
         self.index.add(constraint)?;

@@ -9,7 +9,7 @@ invariant_of-self-in_err-add c =
     let items = c.in-Some.ensures.items in
     let levels = rw (items, reverse_push) at c.self.invariant in
     let (more, is, count) = added_since c.in-Some.child.level c.self.inside.standing levels.0 in
-    let back = c.take_back_to.ensures more (first_added c.in-Some.child.level c.self.inside.standing) is count in
+    let back = c.take_back_to.ensures.taken more (first_added c.in-Some.child.level c.self.inside.standing) is count in
     let unchanged = c.in_err-add.ensures.unchanged in
     rw (unchanged, back) (AreLevels-deeper c.in-Some.child.level _ (reverse c.pop.new.self.items) (omega (arith, count)) levels.1)
 
@@ -18,7 +18,7 @@ invariant_of-self-2 c =
     let items = c.in-Some.ensures.items in
     let levels = rw (items, reverse_push) at c.self.invariant in
     let (more, is, count) = added_since c.in-Some.child.level c.self.inside.standing levels.0 in
-    let back = c.take_back_to.ensures more (first_added c.in-Some.child.level c.self.inside.standing) is count in
+    let back = c.take_back_to.ensures.taken more (first_added c.in-Some.child.level c.self.inside.standing) is count in
     let added = c.in_ok-add.ensures.added in
     rw (added, back) (AreLevels-deeper c.in-Some.child.level _ (reverse c.pop.new.self.items) (omega (arith, count)) levels.1)
 
@@ -27,6 +27,6 @@ returns c =
     let items = c.in-Some.ensures.items in
     let levels = rw (items, reverse_push) at c.self.invariant in
     let (more, is, count) = added_since c.in-Some.child.level c.self.inside.standing levels.0 in
-    let back = c.take_back_to.ensures more (first_added c.in-Some.child.level c.self.inside.standing) is count in
+    let back = c.take_back_to.ensures.taken more (first_added c.in-Some.child.level c.self.inside.standing) is count in
     let added = c.in_ok-add.ensures.added in
     rw (← c.self.view_is) (rw (items, reverse_push, added, back) (contexts-next c.in-Some.child c.self.inside.standing (reverse c.pop.new.self.items) levels))

@@ -14,6 +14,6 @@ loop-one-preserved c =
     let more : take (c.loop-one.one-index + 1) constraints ≡ before ++ c.one-item.result ∷ [] = take_more constraints c.loop-one.one-index c.one-item.result c.loop-one-test.true ∙ ap (λ (p : AgentConstraint). before ++ p ∷ []) (sym c.one-item.is) in
     subst (λ (listed : List AgentConstraint). c.if-one-agent.own ≡ constraints_of listed c.args.agent) (sym more)
     (elim c.if-one-agent.branch [
-      | then-one-agent+in_ok-add w ↦ w.own-is ∙ w.in_ok-add.ensures ∙ ap (λ (own : List PathConstraint). own ++ c.one-item.result.constraint ∷ []) c.loop-one.invariant ∙ sym (of_agent_more before c.one-item.result c.args.agent w.if-one-agent.true)
+      | then-one-agent+in_ok-add w ↦ w.own-is ∙ w.in_ok-add.ensures.added ∙ ap (λ (own : List PathConstraint). own ++ c.one-item.result.constraint ∷ []) c.loop-one.invariant ∙ sym (of_agent_more before c.one-item.result c.args.agent w.if-one-agent.true)
       | else-one-agent w ↦ w.own-is ∙ c.loop-one.invariant ∙ sym (of_agent_same before c.one-item.result c.args.agent w.if-one-agent.false)
     ])
