@@ -1,7 +1,7 @@
 -- For every map text, scenario text, number of agents and limit that the readers accept, a plan printed with `cost C`
--- is valid and no valid plan has a smaller sum of costs; 'impossible' is printed only where no valid plan exists; the
--- checker accepts the certificate printed with either; and whatever the checker accepts as optimal or as impossible
--- truly is so, whoever wrote it.
+-- is valid with the sum of costs C, and no valid plan has a smaller one; 'impossible' is printed only where no valid
+-- plan exists; the checker accepts the certificate printed with either; and whatever the checker accepts as optimal or
+-- as impossible truly is so, whoever wrote it.
 --
 -- Where `within B C` is printed, the plan is valid with the sum of costs C, B is below C, no valid plan has a sum of
 -- costs below B, and the checker accepts both texts with the same verdict. Where it is the verdict, whoever wrote the
@@ -10,10 +10,13 @@
 -- Where a bound is printed or accepted, no valid plan has a smaller sum of costs, whoever wrote the texts; and the
 -- checker accepts the certificate printed with a bound.
 --
--- Beside a plan text with a valid plan, `impossible` or a bound, a certificate of version 3 is accepted exactly if its
--- bytes spell one that shows its claim, and the claim fits the answer of the plan text.
+-- Beside a plan text for the problem with a valid plan, `impossible` or a bound, a certificate of any version is
+-- accepted exactly if its bytes spell one for the problem's number of agents that shows its claim, and the claim fits
+-- the answer of the plan text.
 --
--- Devices of memory report their bytes to contracts. Opaque ones, such as files, don't.
+-- Devices of memory report their bytes to contracts. Opaque ones, such as files, don't. The checker accepts what
+-- it has to accept within the sizes that it reads (docs/FORMATS.md, section 8), unless an input can't be read or memory
+-- runs out. Of other runs that end with an error of memory, input or output nothing is said here.
 use Rattle.std.specs.Prelude.{◌≡◌, ℕ, List, Option, Some, IfSome, IsSome, length}
 use Rattle.mapf_app.specs.declared.kind.Kind.{Kind}
 use Rattle.mapf_app.specs.declared.kind.Kind.TheVariants.{Found, Impossible, Limit, Within}

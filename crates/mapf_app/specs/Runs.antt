@@ -6,7 +6,6 @@ use Rattle.mapf_app.specs.Faults.{IsBeforeWriting}
 use Rattle.mapf_app.specs.declared.fault.Fault.{Fault}
 use Rattle.mapf_app.specs.declared.fault.Fault.TheVariants.{F4, F5}
 use Rattle.mapf_app.specs.declared.fault.Input.{Input}
-use Rattle.mapf_app.specs.declared.fault.Output.{Output}
 use Rattle.mapf_app.specs.declared.fault.Output.TheVariants.{Plan, Cert, Out}
 
 -- the source has failed, or it gave more bytes than the limit

@@ -32,12 +32,12 @@ pub fn run_check<M: Source, S: Source, P: Source, C: Source>(
     // The verdict is true of the problem that was read, and both texts are accepted for it.
     ensures verdict { IfOk result
         (JudgesTruly (M.remaining map.old) (S.remaining scen.old) (P.remaining plan.old) (C.remaining cert.old) k) }
-    // What has to be accepted is accepted, unless a device or memory prevents it.
+    // What has to be accepted is accepted, unless a device fails, an input is too long or memory runs out.
     ensures accepted { (verdict : Verdict) → IsDueVerdict
         (M.remaining map.old) (S.remaining scen.old) (P.remaining plan.old) (C.remaining cert.old) k verdict →
         MatchResult result (λ given. given ≡ verdict) IsOfInput }
-    // Each reported error is one that the inputs have. For the map, the scenario and an invalid plan its location is
-    // correct too.
+    // Each reported error is one that the inputs have (of P and K errors that the text spells none, and of C6 to C10 of
+    // version 3 that it has one of these). For the map, the scenario and an invalid plan its location is correct too.
     ensures fault { IfErr result
         (IsChecking (M.remaining map.old) (S.remaining scen.old) (P.remaining plan.old) (C.remaining cert.old) k) }
     // Out of memory is `F6`, and inside no other error.

@@ -80,7 +80,7 @@ impl From<WriteFault> for Unaccepted {
 /// What `cbsh` may do.
 #[derive(Clone, Copy, Debug, PartialEq, Eq)]
 pub struct Effort {
-    /// How many splits the search may make: 0 to 100,000.
+    /// How many splits the search may make: 0 to 100,000. It may make 300 all the same.
     pub limit: u32,
     /// How many improvements of the first plan are tried: 0 to 1,000,000.
     pub improvements: u32,

@@ -72,13 +72,15 @@ pub fn run_dispatch<M: Source, S: Source, P: Source, E: Source, K: Sink>(
     ensures text { WritesText result (DispatchesTruly
         (M.remaining map.old) (S.remaining scen.old) (P.remaining plan.old) (E.remaining events.old) k)
         (K.has_failed sink.new) (K.contents sink.old) (K.contents sink.new) (sink.new ≡ sink.old) }
-    // If the texts spell events and a valid plan, the replies are written, unless a device or memory prevents it.
+    // If the texts spell events and a valid plan, the replies are written, unless a device fails, an input is too long
+    // or memory runs out.
     ensures due { (problem : Instance) (paths : List (List ℕ)) (agents : List ℕ) →
         IsDueDispatch (M.remaining map.old) (S.remaining scen.old) (P.remaining plan.old) (E.remaining events.old) k
         problem paths agents →
         MatchResult result
         (λ _. ShowsReplies problem paths agents (K.contents sink.old) (K.contents sink.new)) IsOfDevices }
-    // Each reported error is one that the inputs have, and its location is correct.
+    // Each reported error is one that the inputs have. For the map, the scenario, an invalid plan and the events its
+    // location is correct too.
     ensures fault { IfErr result (IsDispatching
         (M.remaining map.old) (S.remaining scen.old) (P.remaining plan.old) (E.remaining events.old) k) }
     // Out of memory is `F6`, and inside no other error.

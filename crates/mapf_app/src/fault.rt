@@ -52,8 +52,8 @@ pub enum Fault {
     /// The plan can't be played or followed, or the events can't be read.
     #[error("plan or events: {0:?}")]
     F3(PlayFault),
-    /// The input could not be read: its source failed, or gave more than `MOST_TEXT_BYTES` bytes, or of a certificate
-    /// more than `MOST_CERT_BYTES`.
+    /// The input could not be read: its source failed, or gave more than `MOST_TEXT_BYTES` bytes, of a certificate more
+    /// than `MOST_CERT_BYTES`, or of the requests of `follow` more than `mapf_player::MOST_REQUEST_BYTES`.
     #[error("read of {0:?}")]
     F4(Input),
     /// The output could not be written: its sink failed.

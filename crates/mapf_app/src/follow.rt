@@ -50,7 +50,7 @@ pub fn run_follow<M: Source, S: Source, P: Source, R: Source, K: Sink>(
     ensures followed { EndsFollowing (Follows (M.remaining map.old) (S.remaining scen.old) (P.remaining plan.old) k
         (R.remaining requests.old) (R.remaining requests.new) (K.contents sink.old) (K.contents sink.new))
         ((requests.new ≡ requests.old) × (sink.new ≡ sink.old)) result }
-    // If the plan text spells a valid plan, requests are answered, unless a device or memory prevents it.
+    // If the plan text spells a valid plan, an error is one of the requests, of a device or of memory.
     ensures due { (problem : Instance) (paths : List (List ℕ)) →
         IsDuePlan (M.remaining map.old) (S.remaining scen.old) (P.remaining plan.old) k problem paths →
         IfErr result IsOfRequests }

@@ -109,7 +109,7 @@ pub fn read_problem<M: Source, S: Source>(
     // If a problem is returned, the map and the scenario spell it.
     ensures found { IfOk result (SpellsProblem (M.remaining map.old) (S.remaining scen.old) k) }
     ensures posed { IfOk result (IsPosed k) }
-    // A problem that they spell is returned, unless a device or memory prevents it.
+    // A problem that they spell is returned, unless a device fails, an input is too long or memory runs out.
     ensures only { (problem : Instance) → IsSome (M.remaining map.old) → IsSome (S.remaining scen.old) →
         SpellsProblem (M.remaining map.old) (S.remaining scen.old) k problem →
         (result ≡ Ok problem) ⊎ IsErrAnd result IsOfInput }

@@ -1,5 +1,5 @@
-//! What the program prints for a verdict and for each error of a run, as one line. `tell.rt` and the demo write their
-//! lines here.
+//! What the program prints for an answer, a verdict, a refused answer and each error of a run, as one line. `tell.rt`
+//! and the demo write their lines here.
 ghost use Rattle.std.specs.Prelude.{◌≡◌, ◌≤◌, ◌++◌, ◌⊎◌, ℕ, List, false, Some, None, OnErr, OnOk};
 ghost use Rattle.std.specs.Prelude.{codes, drop, length, take};
 ghost use Rattle.std.specs.Result.{is_err};

@@ -72,13 +72,15 @@ pub fn read_planned<M: Source, S: Source, P: Source>(
     // If a problem and a plan are returned, the inputs spell them.
     ensures found { IfOk result (λ planned. SpellsPlanned
         (M.remaining map.old) (S.remaining scen.old) (P.remaining plan.old) k planned.problem planned.plan) }
-    // A problem and a valid plan that the inputs spell are returned, unless a device or memory prevents it.
+    // A problem and a valid plan that the inputs spell are returned, unless a device fails, an input is too long or
+    // memory runs out.
     ensures only { (planned : Planned) →
         IsDuePlan (M.remaining map.old) (S.remaining scen.old) (P.remaining plan.old) k planned.problem planned.plan →
         (result ≡ Ok planned) ⊎ IsErrAnd result IsOfInput }
     // Each reported error is one that the inputs have. For the map, the scenario and an invalid plan its location is
     // correct too.
     ensures fault { IfErr result (IsPlanning (M.remaining map.old) (S.remaining scen.old) (P.remaining plan.old) k) }
+    // Out of memory is `F6`, and inside no other error.
     ensures inner { IfErr result HasNoInnerMemory }
     // An error of a source is reported only if the source failed or gave more bytes than its limit, and always if the
     // source failed. No input with more bytes than its limit is accepted. Each input is read only after those before it

@@ -33,7 +33,8 @@ pub fn run_play<M: Source, S: Source, P: Source, K: Sink>(
     ensures text { WritesText result
         (PlaysTruly (M.remaining map.old) (S.remaining scen.old) (P.remaining plan.old) k)
         (K.has_failed sink.new) (K.contents sink.old) (K.contents sink.new) (sink.new ≡ sink.old) }
-    // If the plan text spells a valid plan, this plan is written, unless a device or memory prevents it.
+    // If the plan text spells a valid plan, this plan is written, unless a device fails, an input is too long or memory
+    // runs out.
     ensures due { (problem : Instance) (paths : List (List ℕ)) →
         IsDuePlan (M.remaining map.old) (S.remaining scen.old) (P.remaining plan.old) k problem paths →
         MatchResult result (λ _. ShowsPlan problem paths (K.contents sink.old) (K.contents sink.new)) IsOfDevices }

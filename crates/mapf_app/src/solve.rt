@@ -1,5 +1,5 @@
-//! The run of `solve`: a problem is read and solved, and the plan text and the certificate are written. The program
-//! makes it over files, the demo over memory.
+//! The run of plain search: a problem is read and solved, and the plan text and the certificate are written. The demo
+//! makes it over memory; the program makes that of `solve_by.rt`.
 ghost use Rattle.std.specs.Prelude.{◌≡◌, ◌≤◌, ℕ, List, false, IfErr, IsSome, MatchResult};
 ghost use Rattle.std.specs.Io.KnownBytes.{Appends};
 ghost use Rattle.mapf_app.specs.Faults.{HasNoInnerMemory, IsOfDevices, IsOfMap, IsSolving};
@@ -47,8 +47,8 @@ pub fn run_solve<M: Source, S: Source, P: Sink, C: Sink>(
     // names no search.
     ensures policy { WritesTexts result (PrintsByPolicy (M.remaining map.old) (S.remaining scen.old) k limit)
         (P.contents plan_sink.old) (P.contents plan_sink.new) (C.contents cert_sink.old) (C.contents cert_sink.new) }
-    // If the map and the scenario spell a problem, it is solved, unless a device or memory prevents it. As they spell
-    // no other, it is the problem of `policy`.
+    // If the map and the scenario spell a problem, it is solved, unless a device fails, an input is too long or memory
+    // runs out. As they spell no other, it is the problem of `policy`.
     ensures due { (problem : Instance) → IsSome (M.remaining map.old) → IsSome (S.remaining scen.old) →
         SpellsProblem (M.remaining map.old) (S.remaining scen.old) k problem →
         MatchResult result (λ kind. (plan_text : List ℕ) × (cert_text : List ℕ)

@@ -28,7 +28,7 @@ pub struct Asked<'w, W: Watcher> {
     pub search: Search,
     /// How many agents count: 1 to 200.
     pub k: u32,
-    /// How many splits the search may make: 0 to 100,000.
+    /// How many splits the search may make: 0 to 100,000; the second search may make 300 all the same.
     pub limit: u32,
     /// How many improvements of its first plan the second search tries: 0 to 1,000,000.
     pub improvements: u32,
@@ -51,8 +51,8 @@ pub fn run_solve_by<W: Watcher, M: Source, S: Source, P: Sink, C: Sink>(
     requires works { (M.has_failed map.old ≡ false) × (S.has_failed scen.old ≡ false)
         × (P.has_failed plan_sink.old ≡ false) × (C.has_failed cert_sink.old ≡ false) }
     requires range { (1 ≤ asked.k) × (asked.k ≤ most_agents) × (asked.limit ≤ most_splits) }
-    // A printed plan is optimal, or valid beside a bound; 'impossible' is printed only if no plan is valid, a bound only
-    // if no valid plan has a smaller sum of costs, and both texts are accepted for the problem that was read. The
+    // A printed plan is optimal, or valid beside a bound; 'impossible' is printed only if no plan is valid, a bound
+    // only if no valid plan has a smaller sum of costs, and both texts are accepted for the problem that was read. The
     // certificate is of version 2 if the answer is plain search's, and else of version 3. A sink that failed got a
     // prefix of such a text.
     ensures printed { WritesTexts result
@@ -69,7 +69,8 @@ pub fn run_solve_by<W: Watcher, M: Source, S: Source, P: Sink, C: Sink>(
     // Nothing is refused before the answer if plain search was asked for. Want of memory is no refusal.
     ensures refused { IfOk result (λ answer. IfSome answer.refused
         (λ refusal. HasNoCheckMemory refusal × (asked.entry.search ≢ Cbs))) }
-    // If the map and the scenario spell a problem, it is answered, unless a device or memory prevents it.
+    // If the map and the scenario spell a problem, it is answered, unless a device fails, an input is too long or
+    // memory runs out.
     ensures due { (problem : Instance) → IsSome (M.remaining map.old) → IsSome (S.remaining scen.old) →
         SpellsProblem (M.remaining map.old) (S.remaining scen.old) asked.entry.k problem →
         MatchResult result (λ answer. (plan_text : List ℕ) × (cert_text : List ℕ)

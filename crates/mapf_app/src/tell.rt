@@ -1,5 +1,5 @@
 //! How a run ends for the user: its line, on standard output or standard error, and its exit status. The program calls
-//! this after each run.
+//! these after each run, but for `tell_solve`.
 ghost use Rattle.std.specs.Prelude.{◌≡◌, ℕ, List, false, None, IfOk, IfErr, IfSome, OnOk, MatchBool, if◌then◌else◌};
 ghost use Rattle.std.specs.Result.{is_err};
 ghost use Rattle.mapf_app.specs.FaultLines.{fault_line};
@@ -102,6 +102,7 @@ pub fn tell_solve_by<O: Sink, E: Sink>(
     ensures refused { IfOk answer.now (λ given. IfSome given.refused (λ refusal. (text : List ℕ)
         → IsRefusedLine refusal text → Gets (E.has_failed err.new) (E.contents err.old) (E.contents err.new) text)) }
     ensures quiet { IfOk answer.now (λ given. given.refused ≡ None → err.new ≡ err.old) }
+    // An error is printed on `err`, and `out` isn't called.
     ensures fault { IfErr answer.now (λ fault. (out.new ≡ out.old)
         × Tells (E.has_failed err.new) (E.contents err.old) (E.contents err.new) (fault_line fault) 2 result) }
 {
@@ -145,7 +146,7 @@ pub fn tell_check<O: Sink, E: Sink>(answer: &Result<Verdict, Fault>, out: &mut O
 /// without an error nothing is printed.
 pub fn tell_run<E: Sink>(answer: &Result<(), Fault>, err: &mut E) -> u8
     requires { E.has_failed err.old ≡ false }
-    // Without an error `play`, `dispatch` and the demo print nothing more, with status 0.
+    // Without an error `play`, `dispatch`, `follow` and the demo print nothing more, with status 0.
     ensures well { OnOk answer.now ((result ≡ 0) × (err.new ≡ err.old)) }
     // An error of these is its line on standard error, with status 2.
     ensures fault { IfErr answer.now (λ fault.

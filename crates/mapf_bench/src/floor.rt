@@ -1,3 +1,4 @@
+//! A floor: which of its cells are free.
 use anyhow::Result;
 use std::alloc::Global;
 

@@ -1,3 +1,4 @@
+//! What the words of the command line ask for.
 ghost use Rattle.std.specs.Prelude.{◌≤◌, IfSome, vec_len};
 ghost use Rattle.mapf_bench.specs.Jobs.{IsInRange};
 

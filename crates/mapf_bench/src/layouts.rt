@@ -1,3 +1,4 @@
+//! How the floors of each layout are made: which cells are blocked.
 use crate::floor::{Floor, Place};
 use crate::job::{Job, Layout};
 use anyhow::Result;

@@ -1,3 +1,4 @@
+//! The problems of a job, as the texts of a map and of a scenario.
 use crate::floor::{Floor, Place};
 use crate::job::Job;
 use crate::layouts::floor_of;

@@ -1,3 +1,4 @@
+//! How a job is run on a problem, and what is printed of it.
 ghost use Rattle.std.specs.Prelude.{◌≡◌, false, IfOk};
 ghost use Rattle.mapf_bench.specs.Jobs.{IsInRange};
 

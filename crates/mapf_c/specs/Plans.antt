@@ -1,5 +1,5 @@
 -- What a call that judges a plan alone answers. (own)
-use Rattle.std.specs.Prelude.{◌≡◌, ℕ, List, [], Some, Result, Ok, Err, IfErr, IfOk, MatchResult}
+use Rattle.std.specs.Prelude.{◌≡◌, ℕ, List, [], Some, Result, Ok, Err, IfErr, IfOk}
 use Rattle.mapf_app.specs.Faults.{HasNoInnerMemory, IsOfInput, IsPlanning}
 use Rattle.mapf_app.specs.Planned.{IsDuePlan, SpellsPlanned}
 use Rattle.mapf_app.specs.declared.fault.Fault.{Fault}

@@ -57,7 +57,8 @@ pub extern "C" fn mapf_check(
     cert: &[u8],
 ) -> Answer
     // The verdict is true of the problem that was read, and both texts are accepted for it. An error is one that the
-    // texts have. What has to be accepted is accepted, unless a text is too long or memory runs out.
+    // texts have; which P, K or, in version 3, C error it is, is only tested. What has to be accepted is accepted,
+    // unless a text is too long or memory runs out.
     ensures answer { IsCount agents → IsAnswerOfCheck map.now scen.now plan.now cert.now agents result }
     // Other numbers of agents than 1 to 200 are told as out of their range.
     ensures range { (IsCount agents → ⊥) → result ≡ unanswered out_of_range }

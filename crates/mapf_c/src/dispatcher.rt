@@ -11,8 +11,9 @@ use crate::numbers::{FaultNumbers, ReplyNumbers, VisitNumbers};
 use crate::starting::dispatch_of;
 use std::alloc::Global;
 
-/// Makes the dispatcher of a valid plan for the problem of the first agents of a scenario, or answers why there is none.
-/// One that the handle had before is freed. A caller in C ensures what `include/mapf.h` says of texts and dispatchers.
+/// Makes the dispatcher of a valid plan for the problem of the first agents of a scenario, or answers why there is
+/// none. One that the handle had before is freed. A caller in C ensures what `include/mapf.h` says of texts and
+/// dispatchers.
 #[unsafe(no_mangle)]
 pub extern "C" fn mapf_dispatcher_new(
     alloc: Global,
@@ -22,8 +23,8 @@ pub extern "C" fn mapf_dispatcher_new(
     agents: u32,
     plan: &[u8],
 ) -> FaultNumbers
-    // It begins the valid plan which the texts spell. An error is one that they have. If they spell a valid plan, it is
-    // made, unless a text is too long or memory runs out.
+    // It begins the valid plan which the texts spell. An error is one that they have; which P error it is, is only
+    // tested. If they spell a valid plan, it is made, unless a text is too long or memory runs out.
     ensures made { IsCount agents →
         IsMadeOf map.now scen.now plan.now agents dispatcher.new.kept.progress result }
     // Other numbers of agents than 1 to 200 are told as out of their range.

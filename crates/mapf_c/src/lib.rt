@@ -1,5 +1,6 @@
-//! What does a program in C call? Each export makes a run of `mapf_app` over texts in memory, tells its answer in
-//! numbers, and puts texts into buffers of the caller's.
+//! What does a program in C call? Exports over texts in memory: two make runs of `mapf_app`, one judges a plan, four
+//! keep a dispatcher, and one tells the version. Answers are told in numbers, and texts go into buffers of the
+//! caller's.
 //!
 //! `include/mapf.h` declares the exports and the structs, and says what a caller has to ensure. Nothing checks that.
 #![tactic(auto)]

@@ -71,8 +71,8 @@ pub extern "C" fn mapf_validate(
     agents: u32,
     plan: &[u8],
 ) -> Answer
-    // A cost is that of the valid plan which the texts spell. An error is one that they have. A valid plan is found
-    // valid, unless a text is too long or memory runs out.
+    // A cost is that of the valid plan which the texts spell. An error is one that they have; which P error it is, is
+    // only tested. A valid plan is found valid, unless a text is too long or memory runs out.
     ensures answer { IsCount agents → IsAnswerOfPlan map.now scen.now plan.now agents result }
     // Other numbers of agents than 1 to 200 are told as out of their range.
     ensures range { (IsCount agents → ⊥) → result ≡ unanswered out_of_range }

@@ -1,5 +1,5 @@
-//! A plain search: the same order of expansion and the same tie-breaking as the fast one, with full nodes, and a scan
-//! in place of the open list.
+//! The simple search: the same order of expansion and the same tie-breaking as plain search, with full nodes, and a
+//! scan in place of the open list.
 ghost use Rattle.std.specs.Prelude.{◌≡◌, ◌+◌, ◌^◌, ◌<◌, ◌≤◌, ◌∷◌, ℕ, length, IfOk, OnOk};
 ghost use Rattle.mapf_model.specs.Conflicts.{tick_of};
 ghost use Rattle.mapf_model.specs.Laws.{AreSameBars};

@@ -1,5 +1,5 @@
 //! The constraint tree while the search over trees grows it: its nodes, their statuses and the open list. The tree of
-//! the plain search keeps statuses by the same functions.
+//! the simple search keeps statuses by the same functions.
 ghost use Rattle.std.specs.Prelude.{◌≡◌, ◌+◌, ◌^◌, ◌<◌, ◌≤◌, ◌∷◌, [], length, All, IfOk, OnOk};
 ghost use Rattle.mapf_model.specs.Limits.{most_agents};
 ghost use Rattle.mapf_cbs.specs.State.{status_of, with_children, split_statuses, with_key, with_keys};

@@ -1,5 +1,5 @@
-//! How a search begins, the plain one too: with the paths of the root, or with a tree of one node which shows that no
-//! plan is valid.
+//! How a search begins, the simple search too: with the paths of the root, or with a tree of one node which shows that
+//! no plan is valid.
 ghost use Rattle.std.specs.Prelude.{◌≡◌, ◌*◌, ◌^◌, ◌≤◌, ◌-◌, ◌∷◌, [], length, sum_by};
 ghost use Rattle.std.specs.Prelude.{IfOk, IfSome, IfNone};
 ghost use Rattle.mapf_model.specs.Limits.{most_agents};

@@ -1,4 +1,4 @@
-//! A node of the plain search, which holds the paths and the constraints of all agents.
+//! A node of the simple search, which holds the paths and the constraints of all agents.
 ghost use Rattle.std.specs.Prelude.{◌≡◌, ◌*◌, ◌-◌, ◌^◌, ◌<◌, ◌≤◌, length, slice_set, sum, sum_by, All, IfOk};
 ghost use Rattle.mapf_model.specs.Limits.{most_agents, most_path_cells};
 ghost use Rattle.mapf_cbs.specs.Nodes.{IsRootView};

@@ -1,4 +1,4 @@
-//! The constraint tree of the plain search, whose least open node is found by a scan.
+//! The constraint tree of the simple search, whose least open node is found by a scan.
 ghost use Rattle.std.specs.Prelude.{List, ◌≡◌, ◌+◌, ◌^◌, ◌<◌, ◌∷◌, [], ◌++◌, length, IfOk, OnOk, IsTrue, ◌↔◌};
 ghost use Rattle.mapf_cbs.specs.State.{split_statuses};
 ghost use Rattle.mapf_cbs.specs.Search.{View, AreBlockLists};

@@ -1,4 +1,4 @@
-//! The reader of plan texts. The checker calls it, and so do the runs of `play` and `dispatch`.
+//! The reader of plan texts. The checker calls it, and so do the runs of `play`, `dispatch` and `follow`.
 ghost use Rattle.std.specs.Prelude.{◌≡◌, ◌<◌, ◌≤◌, ◌+◌, ◌++◌, ℕ, List, All, Ok, Err, true, codes, length};
 ghost use Rattle.std.specs.Prelude.{◌↔◌, IsOk, IsSome, IfSome, IfOk, IsOkAnd};
 ghost use Rattle.mapf_model.specs.Printed.{IsOnGrid, IsPathInRange};

@@ -1,4 +1,4 @@
-//! The writer of plan texts: to a sink for the run of `solve`, or into memory for tests.
+//! The writer of plan texts: to a sink for plain search, or into memory for an answer that is checked first.
 ghost use Rattle.std.specs.Prelude.{◌≡◌, ◌<◌, ◌≤◌, ◌+◌, ◌*◌, ◌++◌, ◌∷◌, [], codes, OnOk, IfOk, length, false};
 ghost use Rattle.std.specs.Result.{is_err};
 ghost use Rattle.mapf_model.specs.Limits.{most_agents};

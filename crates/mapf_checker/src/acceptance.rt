@@ -81,6 +81,7 @@ pub fn check_from<S: Source>(
     // If the plan text is not accepted, the source is not read.
     ensures unpulled { ((answer : Claim) → IsGoodPlan problem.now plan_text.now answer → ⊥)
         → source.new ≡ source.old }
+    // `Device` is returned if and only if the source failed.
     ensures device { IsErrOf result FromFault.Device ↔ (S.has_failed source.new ≡ true) }
     // At most one byte more than the limit is read, and `TooLong` is returned if and only if that byte was read.
     ensures pulls { Pulls (S.remaining source.old) (S.remaining source.new) limit (IsErrOf result FromFault.TooLong) }

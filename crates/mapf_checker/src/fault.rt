@@ -26,9 +26,9 @@ pub enum Verdict {
 }
 
 /// Why two texts are not accepted. Lines are counted from 1. The variant `Memory` of a text's error never occurs in
-/// here. It is proved that the reported error is one that the texts have; of `C6` to `C10` of a certificate of version 3
-/// it is proved that a part doesn't show what it has to show, and only tested which of these errors it is. That an error
-/// is the first one, and that its line is right, is only tested.
+/// here. It is proved that the reported error is one that the texts have; of `C1` and `C2` that the bytes spell no plan
+/// text or no certificate, and of `C6` to `C10` of a certificate of version 3 that a part doesn't show what it has to
+/// show: which of these errors it is, is only tested. So is that an error is the first one, and that its line is right.
 #[derive(Clone, Copy, Debug, PartialEq, Eq)]
 pub enum CheckFault {
     /// The plan text does not follow the grammar.

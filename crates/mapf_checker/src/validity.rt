@@ -1,5 +1,5 @@
 //! The check of plans: is the plan valid, and what does it cost? The judge of a plan text calls it, and so do the runs
-//! of `play` and `dispatch`.
+//! of `play`, `dispatch` and `follow`, that of the second search, and the calls for C.
 ghost use Rattle.std.specs.Prelude.{◌≡◌, ◌↔◌, length, IfOk, OnOk, IfErr, IsOk};
 ghost use Rattle.mapf_model.specs.Plan.{IsValid, IsSumOfCosts};
 ghost use Rattle.mapf_checker.specs.Defects.{HasDefect, AreLawful, path_fault_of};

@@ -1,4 +1,4 @@
-//! The search for the first conflict, tick by tick, whatever holds the paths. The plain search calls it without marks,
+//! The search for the first conflict, tick by tick, whatever holds the paths. The simple search calls it without marks,
 //! the search over trees by way of `marks.rt`.
 ghost use Rattle.std.specs.Prelude.{◌≡◌, ◌<◌, ◌≤◌, length, slice_index, IfNone, IfOk, IfSome};
 ghost use Rattle.mapf_model.specs.declared.conflict.Conflict.TheVariants.{Vertex};

@@ -1,4 +1,4 @@
-//! The plain table of constraints, which the plain search uses, and with which tests compare `TickBars`.
+//! The plain table of constraints, which the simple search uses, and with which tests compare `TickBars`.
 ghost use Rattle.mapf_model.specs.Limits.{split_ticks};
 ghost use Rattle.mapf_constraints.specs.BarSets.{AreBefore, IsHorizon, IsLastOn};
 

@@ -1,4 +1,5 @@
-//! Tables of distances that are made when they are needed, for the search over trees and for the judge of a tree.
+//! Tables of distances that are made when they are needed, for the search over trees and for the judges of trees and of
+//! lemmas.
 ghost use Rattle.std.specs.Prelude.{◌≡◌, ◌<◌, ℕ, Some, IfOk, OnOk, length, slice_get};
 ghost use Rattle.mapf_distance.specs.Tables.{AreMade, HasTable};
 

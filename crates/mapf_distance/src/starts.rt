@@ -1,4 +1,5 @@
-//! How far the agents' starts are from their goals, found by A*. The judge of a tree needs these distances at leaves.
+//! How far the agents' starts are from their goals, found by A*. The judges of trees need these distances at leaves,
+//! and the second search before it begins.
 ghost use Rattle.std.specs.Prelude.{IfOk};
 ghost use Rattle.mapf_distance.specs.Tables.{AreStartDistances};
 

@@ -1,4 +1,4 @@
-//! The tables of distances for all agents at once, for the plain search and for tests.
+//! The tables of distances for all agents at once, for the first plan, for prices, for the simple search and for tests.
 ghost use Rattle.std.specs.Prelude.{IfOk};
 ghost use Rattle.mapf_distance.specs.Tables.{AreTables};
 

@@ -1,4 +1,4 @@
-//! Problems of which it is plain before any search that no plan is valid.
+//! The agents' starts and goals, and problems of which these tell before any search that no plan is valid.
 use crate::task::Task;
 use mapf_model::{Agent, Cell, OutOfMemory};
 use std::alloc::Global;

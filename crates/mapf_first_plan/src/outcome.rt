@@ -6,7 +6,8 @@ use mapf_model::Plan;
 pub enum FirstPlan {
     /// A plan, without waits at the ends of its paths.
     Found(Plan),
-    /// No plan is valid: the search has met each configuration that can be reached. Nothing shows it to anybody else.
+    /// No plan is valid: that is plain, or each configuration that can be reached was met. Nothing shows it to anybody
+    /// else.
     Impossible,
     /// As many successors were tried as the bound allows.
     Stopped,

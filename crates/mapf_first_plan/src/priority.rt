@@ -8,7 +8,7 @@ use std::cmp::Reverse;
 /// with the longest way from their start.
 #[derive(Clone, Copy, Debug, PartialEq, Eq, PartialOrd, Ord)]
 pub struct Priority {
-    /// How many ticks ago it was at its goal or at its start.
+    /// How many ticks ago it was at its goal, or how many there were if it never was.
     away: Reverse<u32>,
     /// The distance from its start to its goal.
     length: Reverse<u32>,

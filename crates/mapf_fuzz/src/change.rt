@@ -1,3 +1,4 @@
+//! How a text for a reader is drawn: from pieces, or as a sample with a few changes.
 use crate::samples::{Reader, samples};
 use anyhow::Result;
 use rand::RngExt;

@@ -1,3 +1,4 @@
+//! How many texts a reader accepted and refused, as one line.
 use crate::samples::Reader;
 use std::fmt;
 

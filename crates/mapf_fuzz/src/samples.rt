@@ -1,3 +1,4 @@
+//! The readers, and the texts of one small problem that are damaged for each of them.
 /// The text that is damaged. The others of its problem stay as they are.
 #[derive(Clone, Copy, Debug, PartialEq, Eq)]
 pub enum Reader {
@@ -18,7 +19,7 @@ pub const READERS: [Reader; 6] = [
     Reader::Requests,
 ];
 
-// Two agents whose shortest paths meet in the middle, so that one has to wait.
+/// Two agents whose shortest paths meet in the middle, so that one has to wait.
 pub const MAP: &str = "type octile\nheight 3\nwidth 3\nmap\n...\n...\n...\n";
 
 pub const SCENARIO: &str =
@@ -46,7 +47,8 @@ pub const CERTIFICATE: &str =
 leaf 1\nagent 1 1\nat 1,0 0 3\nend\n";
 
 // Certificates of each version, in version 3 with prices, a lemma of two agents, lemmas by cases and a split on costs.
-const CERTIFICATES: [&str; 6] = [
+// The last one is refused: its joint cells would show that the two agents can't both arrive.
+const CERTIFICATES: [&str; 7] = [
     CERTIFICATE,
     "mapf-cert 1\nagents 2\nclaim cost 5\nvertex 0 1 1,1 1\nleaf 1\nagent 0 1\nat 0,1 0 3\nleaf 1\nagent 1 1\n\
 at 1,0 0 3\nend\n",
@@ -59,6 +61,8 @@ not 1 1,1 1\nat 1,0 0 3\ncases 2 0 5\nagent 0\nagent 1\nvertex 0 1 1,1 1\nleaf 1
 leaf 0 1 -\ngroup 1 1\nuse 2 1\nend\n",
     "mapf-cert 3\nagents 2\nclaim cost 5\nprices 0\nlemmas 3\ntwo 0 1 0 0 0 1 -\nat 0,1 1,0 0 5\none 1 1 0 -\n\
 least 1 3\none 0 1 0 -\nleast 0 3\ncosts 0 2 1 3 0\nleaf 1 0 -\nuse 1\nleaf 1 0 -\nuse 2\nend\n",
+    "mapf-cert 3\nagents 2\nclaim cost 5\nprices 0\nlemmas 1\nnever 0 1 1\ncells 0,1 1,0\nleaf 0 1 -\ngroup 1 1\n\
+use 0 1\nend\n",
 ];
 
 pub const EVENTS: &str = "mapf-events 1\n0\n1\n0\n1\n0\n0\n0\nend\n";

@@ -1,3 +1,4 @@
+//! How a reader is handed texts, and whether an answer is a wrong one.
 use crate::change::text_for;
 use crate::count::Count;
 use crate::samples::{AGENTS, CERTIFICATE, EVENTS, LEAST, MAP, PLAN, Reader, SCENARIO};

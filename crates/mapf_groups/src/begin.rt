@@ -1,4 +1,4 @@
-//! Problems of which it is plain before any search that no plan is valid.
+//! Problems of which it is plain before any search that no plan is valid, and the certificate that shows it.
 use mapf_distance::start_distances;
 use mapf_lemma_texts::Part;
 use mapf_model::{Agent, Cell, OutOfMemory, Problem, first_pair};

@@ -425,7 +425,7 @@ impl<'a> Searcher<'a> {
         Ok(given)
     }
 
-    // Returns the number of an agent under its constraints at a node.
+    /// Returns the number of an agent under its constraints at a node.
     pub fn single_at(&self, number: u32, agent: u32) -> u32 {
         let place = self.tree.members.place(agent).unwrap_or(usize::MAX);
         match self.tree.node(number) {
@@ -586,7 +586,7 @@ fn is_given(tree: &SearchTree, agent: u32, set: &ConstraintSet) -> bool {
     }
 }
 
-// Returns the tick of a path's last arrival in its last cell.
+/// Returns the tick of a path's last arrival in its last cell.
 pub fn cost_of(path: &[Cell]) -> u32 {
     let arrival = path.iter().rposition(|cell| path.last() != Some(cell));
     match arrival {

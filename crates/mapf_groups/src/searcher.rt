@@ -191,8 +191,8 @@ impl<'a> Searcher<'a> {
         Ok(())
     }
 
-    // Returns a cheapest path of an agent with few conflicts with the others, as they were placed. None if it can't
-    // arrive.
+    /// Returns a cheapest path of an agent with few conflicts with the others, as they were placed. None if it can't
+    /// arrive.
     pub fn path_of(&mut self, number: Option<u32>) -> Result<Option<Path>, OutOfMemory> {
         let Some(single) = number.and_then(|number| self.store.singles.get(number)) else {
             return Ok(None);

@@ -15,8 +15,8 @@ use std::alloc::Global;
 /// Prices are tried after so many splits, or at the limit if that comes first. Then their budgets are smaller.
 const SPLITS_BEFORE_PRICES: u32 = 1000;
 
-/// Searches for an optimal plan, with at most `limit` splits: 0 to 100,000. A bypass is no split. Out of memory is the
-/// only error.
+/// Searches for an optimal plan, with at most `limit` splits, 0 to 100,000; below 300 the searches for groups at the
+/// root may still make 300. A bypass is no split. Out of memory is the only error.
 pub fn search(alloc: Global, problem: &Problem, limit: u32) -> Result<Outcome, OutOfMemory>
     requires { limit ≤ most_splits }
 {
@@ -132,7 +132,8 @@ fn end(searcher: &mut Searcher, ended: Ended) -> Result<Outcome, OutOfMemory> {
             None => limited(searcher, Cause::Ticks, bound),
         },
         Ended::AtLimit(cause) => limited(searcher, cause, bound),
-        // Each leaf is dead, but the labels of an agent whose goal is cut off for good would never end.
+        // Each leaf is dead, but the labels of an agent whose goal is cut off for good would never end, so it is told
+        // as `limit ticks`, though no conflict is late.
         Ended::Exhausted => limited(searcher, Cause::Ticks, bound),
     }
 }

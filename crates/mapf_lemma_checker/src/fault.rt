@@ -23,7 +23,8 @@ pub enum LemmaRefusal {
     C8(u64),
     /// The clash in this line is wrong: its agents are equal, or their goals differ.
     C9(u64),
-    /// What stands in this line isn't allowed: a price, a constraint, a lemma of one agent twice, or a use.
+    /// What stands in this line isn't allowed: a price, a constraint, a lemma of one agent twice, a use, or a split on
+    /// two costs.
     C10(u64),
 }
 

@@ -36,7 +36,7 @@ greatest_price = 9999999
 abbrev pub greatest_label : ℕ
 greatest_label = 9999999999
 
--- the cost that a path may be split at, and the tick from which on a cell may be forbidden
+-- the greatest cost of a split or of `most`, and the last tick of `clear`
 abbrev pub last_cost_split : ℕ
 last_cost_split = 9999998
 

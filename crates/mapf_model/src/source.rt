@@ -1,5 +1,5 @@
-//! Devices to read from. The runs read from any source: in the program from files, in the demo and in tests from
-//! memory.
+//! Devices to read from. The runs read from any source: in the program from files and standard input, in the demo and
+//! in tests from memory.
 ghost use Rattle.std.specs.Prelude.{◌≡◌, ◌<◌, ◌≤◌, ◌↔◌, List, ℕ, Bool, true, false, Some, Option, length, min, IfOk};
 ghost use Rattle.std.specs.Prelude.{OnOk, IfSome, IsErrOf, vec_len};
 ghost use Rattle.std.specs.Result.{is_err};

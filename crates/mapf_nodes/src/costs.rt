@@ -41,7 +41,7 @@ impl<'s, 'a> Costs<'s, 'a> {
         }
     }
 
-    /// Returns how much more two agents cost together than alone at a node, in ticks.
+    /// Returns how much more two agents cost at least together than alone at a node, in ticks.
     pub fn pair_excess(&self, node: &Node, fact: &PairFact) -> u64 {
         fact.bound.saturating_sub(self.sum(node, &[fact.i, fact.j]))
     }

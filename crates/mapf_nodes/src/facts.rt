@@ -10,7 +10,7 @@ pub struct PairFact {
     pub j: u32,
     /// The number of the pair for which it was found.
     pub pair: u32,
-    /// The least sum of their costs, in ticks.
+    /// A lower bound of the sum of their costs, in ticks.
     pub bound: u64,
 }
 
@@ -19,7 +19,7 @@ pub struct PairFact {
 pub struct GroupFact {
     /// The number of the group.
     pub group: u32,
-    /// The least sum of their costs, in ticks.
+    /// A lower bound of the sum of their costs, in ticks.
     pub bound: u64,
 }
 
@@ -31,7 +31,7 @@ pub enum Fact {
 }
 
 impl Fact {
-    /// Returns the least sum of costs, in ticks.
+    /// Returns the lower bound of the sum of costs, in ticks.
     pub fn bound(&self) -> u64 {
         match self {
             Fact::Pair(fact) => fact.bound,

@@ -3,7 +3,8 @@
 //! A node of a constraint tree (`Node`) adds one thing to what stands at its parent (`Added`). It names each agent
 //! under its constraints, each path and each bound by a number. What has a number stands in the `Store`, which serves
 //! all trees of a search: agents under their constraints with their layers and labels (`Singles`), pairs of these with
-//! the least sum of their costs (`Pairs`), paths (`Paths`), and groups of agents with a search of their own (`Groups`).
+//! a lower bound of the sum of their costs (`Pairs`), paths (`Paths`), and groups of agents with a search of their own
+//! (`Groups`).
 //!
 //! Many nodes share an agent's constraints, since those that no path of about its cost can break are left out
 //! (`add_relevant`). What an agent costs alone at a node is read off its number (`Costs`). What some agents cost at

@@ -95,7 +95,7 @@ impl Node {
         }
     }
 
-    /// Returns a child, whose number in the tree its parent's is, before anything is planned again.
+    /// Returns a child of this node, which has this number in the tree, before anything is planned again.
     pub fn child(&self, alloc: Global, number: u32, added: Added) -> Result<Node, OutOfMemory> {
         Ok(Node {
             parent: number,

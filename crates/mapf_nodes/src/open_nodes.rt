@@ -4,10 +4,10 @@ use std::alloc::Global;
 use std::cmp::Reverse;
 use std::collections::BinaryHeap;
 
-/// An open node: of least sum first, of these with the fewest pairs in conflict, of these the newest.
+/// An open node: of least bound first, of these with the fewest pairs in conflict, of these the newest.
 #[derive(Clone, Copy, Debug, PartialEq, Eq, PartialOrd, Ord)]
 pub struct OpenNode {
-    pub total: u64,
+    pub bound: u64,
     pub pairs: u32,
     pub number: Reverse<u32>,
 }
@@ -27,9 +27,9 @@ impl OpenNodes {
     }
 
     /// Adds a node.
-    pub fn add(&mut self, total: u64, pairs: u32, number: u32) -> Result<(), OutOfMemory> {
+    pub fn add(&mut self, bound: u64, pairs: u32, number: u32) -> Result<(), OutOfMemory> {
         self.heap.push(Reverse(OpenNode {
-            total,
+            bound,
             pairs,
             number: Reverse(number),
         }))?;
@@ -41,9 +41,9 @@ impl OpenNodes {
         self.heap.len()
     }
 
-    /// Removes and returns the first node, its sum and its number. None if none is open.
+    /// Removes and returns the first node, its bound and its number. None if none is open.
     pub fn take(&mut self) -> Option<(u64, u32)> {
         let Reverse(first) = self.heap.pop()?;
-        Some((first.total, first.number.0))
+        Some((first.bound, first.number.0))
     }
 }

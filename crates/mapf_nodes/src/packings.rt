@@ -45,7 +45,7 @@ impl Packings {
         Ok(())
     }
 
-    /// Returns a greatest packing of the listed excesses.
+    /// Returns a packing of the listed excesses, as great as was found.
     pub fn find(&mut self) -> Result<&Packing, OutOfMemory> {
         let known = self.numbers.get(&self.key[..]).copied();
         let number = match known {

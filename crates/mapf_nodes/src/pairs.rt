@@ -18,7 +18,7 @@ pub struct KnownPair {
 }
 
 impl KnownPair {
-    /// Returns the least sum of costs, in ticks. `u64::MAX` if the two can't both arrive.
+    /// Returns a lower bound of the sum of costs, in ticks. `u64::MAX` if the two can't both arrive.
     pub fn bound(&self) -> u64 {
         if self.found.bound == u32::MAX {
             u64::MAX

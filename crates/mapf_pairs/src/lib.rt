@@ -10,8 +10,8 @@
 //! left once more, in the round of the least value among them. Within a round the newest state is left first, so two
 //! paths without a conflict are often found after few steps.
 //!
-//! Each agent's own states and the steps between them are found once (`SingleStates`), since many joint states share
-//! them. A joint state is a pair of their numbers.
+//! Each agent's own steps from a state are found once (`SingleSteps`), since many joint states share them. A joint
+//! state is a tick and the cells of both agents then (`Joint`).
 //!
 //! The joint states of a value below a bound, with what is left to the bound, are the joint entries of a lemma by which
 //! the two agents cost at least the bound together (`PairFinder::entries`).

@@ -2,7 +2,7 @@
 #![tactic(auto)]
 
 #[cfg(test)]
-mod adaptors;
+mod adapters;
 #[cfg(test)]
 mod certificates;
 #[cfg(test)]

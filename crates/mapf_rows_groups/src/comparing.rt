@@ -1,4 +1,4 @@
-//! The search beside the plain search, which is proved, on problems drawn at random.
+//! The search beside plain search, which is proved, on problems drawn at random.
 ghost use Rattle.std.specs.Prelude.{◌≤◌};
 
 use crate::judging::{accepted, cert_of};

@@ -1,5 +1,5 @@
-//! Do tables of bars and of distances, the search of one agent and the search for the first
-//! conflict give the known values?
+//! Do tables of constraints and of distances, the search of one agent and the search for the first conflict give the
+//! known values?
 #![tactic(auto)]
 
 #[cfg(test)]

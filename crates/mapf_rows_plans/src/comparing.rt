@@ -1,4 +1,4 @@
-//! Plans of problems drawn at random, beside the plain search, which is proved.
+//! Plans of problems drawn at random, beside plain search, which is proved.
 use crate::planning::{Planned, Work, judged_plans};
 use mapf_cbs::{Answer, solve};
 use mapf_distance::{Distances, goal_tables};
@@ -24,7 +24,7 @@ const CROWDED: Shape = Shape {
     agents: 16,
 };
 
-// There is a plan exactly if the plain search finds one, and none is cheaper than that of the plain search.
+// There is a plan exactly if plain search finds one, and none is cheaper than that of plain search.
 fn assert_agrees(
     rt: &impl Abort,
     alloc: Global,

@@ -1,4 +1,4 @@
-//! Bounds by prices of problems drawn at random, beside the plain search, which is proved, and beside valid plans.
+//! Bounds by prices of problems drawn at random, beside plain search, which is proved, and beside valid plans.
 use crate::judging::{assert_shown, judged_bound, known_by};
 use mapf_cbs::{Answer, solve};
 use mapf_distance::goal_tables;

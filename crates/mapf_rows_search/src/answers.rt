@@ -147,7 +147,7 @@ fn answer_text(alloc: Global, answer: &Answer) -> Result<String, AllocError> {
     Ok(text)
 }
 
-/// The searches: as it is called without naming a table of bars, with either table, and the plain one.
+/// The searches: as it is called without naming a table of bars, with either table, and the simple one.
 #[derive(Clone, Copy)]
 pub enum Search {
     Unnamed,

@@ -1,4 +1,4 @@
-//! Does the search find the cheapest plans and the trees of worked problems, as the plain search does?
+//! Does the search find the cheapest plans and the trees of worked problems, as the simple search does?
 #![tactic(auto)]
 
 #[cfg(test)]

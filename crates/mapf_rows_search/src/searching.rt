@@ -1,4 +1,4 @@
-//! What the search answers, and its trees, beside the plain search and certificates that are known.
+//! What the search answers, and its trees, beside the simple search and certificates that are known.
 
 use crate::answers::{Search, answer_of, assert_text, common_text, push_number, tree_of};
 use mapf_model::{AsNode, Block, Item, Label, NodeKind, Problem};

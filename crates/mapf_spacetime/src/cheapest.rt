@@ -1,5 +1,5 @@
 //! The search for one agent: a cheapest path under constraints, with labels which show that none is cheaper. The search
-//! over trees calls it for each child, and the plain search does too.
+//! over trees calls it for each child, and the simple search does too.
 ghost use Rattle.std.specs.Prelude.{◌≡◌, ◌<◌, ◌≤◌, [], List, None, IfOk, AllPairs, Contains};
 ghost use Rattle.mapf_model.specs.Limits.{greatest_cost};
 ghost use Rattle.mapf_model.specs.Grid.{IsGridMap};

@@ -51,9 +51,9 @@ Exit status:
   3  solve found that no plan is valid
   4  solve reached a limit: it shows a bound alone, beside a plan or without one
 
-Errors, with details in the same line, which explain puts into words: F1 the map, F2 the scenario, F3 a plan that can't be played
-or followed, or the event text, F4 a file that can't be read, F5 one that can't be written, F6 out
-of memory.";
+Errors, with details in the same line, which explain puts into words: F1 the map, F2 the scenario,
+F3 a plan that can't be played or followed, events or requests, F4 a file that can't be read, F5 one
+that can't be written, F6 out of memory.";
 
 const SOLVE_ABOUT: &str =
     "Finds an optimal plan for the first K agents, and writes it with its certificate";
@@ -177,8 +177,8 @@ Exit status:
 const EXPLAIN_ABOUT: &str = "Says in words what a line means that mapf prints";
 
 const EXPLAIN_OUTPUT: &str =
-    "LINE is one argument: an error of standard error, or a line of standard output of solve or check.
-No file is opened.
+    "LINE is one argument: an error of standard error, or a line of standard output, but no row of a
+grid. No file is opened.
 
 Example:
   mapf explain 'F2 S7 32'
