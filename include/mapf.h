@@ -123,14 +123,14 @@ typedef struct mapf_question {
 /* What a search found, and its two texts. */
 typedef struct mapf_solution {
     mapf_answer answer;
-    mapf_fault refused; /* all 0. Else the check refused what MAPF_CBSH answered, and this is the answer of MAPF_CBS */
+    mapf_fault refused; /* all 0, or why the check refused MAPF_CBSH's answer: then `answer` is that of MAPF_CBS */
     uint32_t is_written; /* 1 if both texts were written, else 0 */
     size_t plan_length;  /* bytes of the plan text, 0 if there is no answer */
     size_t cert_length;  /* bytes of the certificate, 0 if there is no answer */
 } mapf_solution;
 
-/* A dispatcher, or none. It is none if `kept` is null and `is_made` is 0. Only the calls below change it. It may be
-   copied, but then only one of the copies is used from then on. */
+/* A dispatcher, or none, which is {NULL, 0}: begin with none. Only the calls below change it. It may be copied, but
+   then only one of the copies is used from then on. */
 typedef struct mapf_dispatcher {
     void *kept;
     uint32_t is_made; /* 1 if there is a dispatcher, else 0 */
@@ -162,8 +162,8 @@ uint32_t mapf_version(void);
 
 /* Checks a plan text and a certificate for the problem of the first `agents` agents (1 to 200) of a scenario.
 
-   The certificate's claim has to fit the cost of the plan, else the answer is MAPF_C4. So a plan that costs more than
-   the optimal one is refused beside its certificate. For a bound in place of this: compare the costs of mapf_validate
+   The certificate's claim has to fit the cost of the plan, else the answer is MAPF_C4. So a plan that costs more is
+   refused beside the certificate of an optimal one. For a bound in place of this: compare the costs of mapf_validate
    and mapf_solve; or, in a certificate of version 3, write `claim bound B` for `claim cost B`, then it is MAPF_WITHIN.
 
    Proved: a verdict is true of the problem that the map and the scenario spell, whoever wrote the other two texts; what
@@ -188,8 +188,7 @@ mapf_answer mapf_validate(const char *map, size_t map_length, const char *scen, 
 
    If there is an answer and both texts fit into their buffers, they are written to their fronts. Else nothing is
    written, and the lengths say how much room they need: a second call with enough room searches again, answers the
-   same, and writes these texts. Certificates of 60 agents may have some megabytes. Bytes behind a text stay as they
-   were.
+   same, and writes these texts. Certificates may have hundreds of megabytes. Bytes behind a text stay as they were.
 
    Proved: the answer is true of the problem that the map and the scenario spell; mapf_check accepts the two texts with
    it, unless one is too long or memory runs out; an error is one that the map or the scenario has; and nothing but the
@@ -219,8 +218,8 @@ mapf_fault mapf_dispatcher_new(mapf_dispatcher *dispatcher, const char *map, siz
 size_t mapf_dispatcher_ask(mapf_dispatcher *dispatcher, const uint32_t *agents, size_t count, mapf_reply *replies,
                            size_t room);
 
-/* Returns how many visits an agent has, and its visit of this number, both counted from 0. An agent is in the visit of
-   as many as it was told MAPF_GO. It takes no memory, which is tested.
+/* Returns how many visits an agent has, and its visit of this number, counted from 0. After n replies MAPF_GO an agent
+   is in its visit n. It takes no memory, which is tested.
 
    Proved: the visit is the one of the plan's path, and nothing changes. */
 mapf_visit mapf_dispatcher_visit(mapf_dispatcher *dispatcher, uint32_t agent, uint32_t number);

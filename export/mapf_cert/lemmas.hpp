@@ -92,7 +92,7 @@ struct Use {
 };
 
 /// Lemmas, 1 to 200,000 of them, whose excess over what single agents cost is added up by weights and divided. For each
-/// agent the weights of its lemmas are at most the divisor, 1 to 1,000.
+/// agent the weights of its lemmas add up to at most the divisor, 1 to 1,000.
 struct Group {
   Number divisor = 1;
   std::vector<Use> uses = {};
