@@ -138,6 +138,7 @@ impl ConflictAvoidanceTable {
         }
         let goal = path.last().copied().unwrap_or(NOWHERE);
         self.add_rests(&mut found, agent, end, goal)?;
+        // Two agents have at most one conflict at a tick, since those that exchange cells aren't in one cell.
         found.sort_unstable_by_key(|conflict| (other_of(conflict, agent), conflict.tick()));
         Ok(found)
     }

@@ -81,7 +81,7 @@ fn add_turns(turns: &mut Vec<Turn>, agent: u32, visits: &Visits) -> Result<(), O
     Ok(())
 }
 
-// Returns all visits by cell and then by tick of entry.
+// Returns all visits by cell and then by tick of entry. In a valid plan no two of them have the same of both.
 fn turns_of(alloc: Global, visits: &[Visits]) -> Result<Vec<Turn>, OutOfMemory>
     requires { length visits.now ≤ most_agents }
     ensures { IfOk result (λ turns. AreSortedTurns visits.now turns.items) }

@@ -1,6 +1,6 @@
 //! Prices under keys by which they are sorted, for the table of prices.
 ghost use Rattle.std.specs.Prelude.{◌≡◌, ◌<◌, ◌≤◌, ◌^◌, length};
-ghost use Rattle.std.specs.List.Sorted.{IsNonDecreasingBy};
+ghost use Rattle.std.specs.List.Sorted.{IsNonDecreasingBy, IsPermutation};
 ghost use Rattle.mapf_single_labels.specs.KeyedPrices.{key_of, key_of_price};
 ghost use Rattle.mapf_single_labels.specs.KeyedPrices.{AreKeysAbove, AreKeysBelow, AreKeysNotAbove, AreKeysNotBelow};
 
@@ -42,4 +42,14 @@ pub fn first_after(prices: &[KeyedPrice], key: u64) -> usize
     ensures others { AreKeysAbove prices.now result key }
 {
     prices.partition_point(|price| price.key <= key)
+}
+
+/// Returns prices in rising order of their keys, and those of one key by all else, so that each sort gives the same.
+pub fn sorted(prices: Vec<KeyedPrice>) -> Vec<KeyedPrice>
+    ensures same { IsPermutation prices.items result.items }
+    ensures rising { IsNonDecreasingBy key_of_price result.items }
+{
+    let mut prices = prices;
+    prices.sort_unstable_by_key(|price| (price.key, price.other, price.amount));
+    prices
 }

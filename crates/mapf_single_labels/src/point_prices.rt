@@ -5,7 +5,7 @@ ghost use Rattle.mapf_single_labels.specs.KeyedPrices.{AreKeysBelow, AreKeysNotB
 ghost use Rattle.mapf_single_labels.specs.Ranges.{greatest_total};
 ghost use Rattle.std.specs.List.Sorted.{IsNonDecreasingBy, IsPermutation};
 
-use crate::keyed_price::{KeyedPrice, first_from};
+use crate::keyed_price::{KeyedPrice, first_from, sorted};
 use std::alloc::Global;
 use std::marker::Model;
 
@@ -34,9 +34,9 @@ impl PointPrices {
     pub fn of(prices: Vec<KeyedPrice>) -> PointPrices
         ensures { IsPermutation prices.items result }
     {
-        let mut prices = prices;
-        prices.sort_unstable_by_key(|price| price.key);
-        PointPrices { prices }
+        PointPrices {
+            prices: sorted(prices),
+        }
     }
 
     /// Returns no prices, which take no memory.

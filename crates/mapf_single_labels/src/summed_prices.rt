@@ -4,7 +4,7 @@ ghost use Rattle.mapf_single_labels.specs.KeyedPrices.{amount_between, amount_of
 ghost use Rattle.mapf_single_labels.specs.Ranges.{greatest_total};
 ghost use Rattle.std.specs.List.Sorted.{IsPermutation};
 
-use crate::keyed_price::{KeyedPrice, first_after};
+use crate::keyed_price::{KeyedPrice, first_after, sorted};
 use mapf_model::OutOfMemory;
 use std::alloc::Global;
 use std::marker::Model;
@@ -38,8 +38,7 @@ impl SummedPrices {
         requires { sum_by amount_of prices.items ≤ greatest_total }
         ensures { IfOk result (IsPermutation prices.items) }
     {
-        let mut prices = prices;
-        prices.sort_unstable_by_key(|price| price.key);
+        let prices = sorted(prices);
         let before = sums_before(alloc, &prices)?;
         Ok(SummedPrices { prices, before })
     }

@@ -210,7 +210,7 @@ impl Drawing {
                 })?;
             }
         }
-        uses.sort_unstable_by_key(|used: &Use| used.lemma);
+        uses.sort_unstable_by_key(|used: &Use| (used.lemma, used.weight));
         Ok(Group {
             divisor: group.divisor,
             uses,
