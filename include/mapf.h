@@ -36,7 +36,7 @@ extern "C" {
 #endif
 
 /* The version of this header: 1,000,000 times the first number, 1,000 times the second, and the third. */
-#define MAPF_VERSION 1000000
+#define MAPF_VERSION 1001000
 
 /* mapf_fault.error: no error; the errors F1 to F6 of a run; a number of the caller's is out of its range; and the
    refusals C1 to C10. docs/FORMATS.md, section 8, says what F1 to F6 and C1 to C10 mean. No call answers F5. */

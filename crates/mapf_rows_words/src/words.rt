@@ -275,7 +275,7 @@ fn shows_help(rt: HostRuntime) -> Result<(), Fail> {
     Ok(())
 }
 
-const VERSION: &str = "mapf 1.0.0
+const VERSION: &str = "mapf 1.1.0-dev
 reads plan texts 1 and 2, certificates 1, 2 and 3, event texts 1
 writes plan texts 2, certificates 2 and 3
 ";

@@ -19,8 +19,8 @@ costs, and writes a certificate which shows that no valid plan costs less. It al
 certificates, shows plans tick by tick, leads agents along a plan, and explains what it prints.
 Without arguments it solves and checks a small built-in problem.";
 
-// The program's version, and below it those of the texts. Both are defined here only.
-const VERSION: &str = "1.0.0
+// The program's version, which Cargo.toml has too, and below it those of the texts.
+const VERSION: &str = "1.1.0-dev
 reads plan texts 1 and 2, certificates 1, 2 and 3, event texts 1
 writes plan texts 2, certificates 2 and 3";
 
