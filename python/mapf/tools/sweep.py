@@ -59,6 +59,7 @@ from collections.abc import Mapping
 from pathlib import Path
 from typing import NoReturn, TextIO
 
+from ..limits import MOST_AGENTS, MOST_SPLITS
 from . import gap_points, gap_report, sweep_points, sweep_report
 from .evidence import rising_to
 from .process import (Stopped, ToolError, called, clear_progress, in_words, program, progress, run_tool,
@@ -66,7 +67,7 @@ from .process import (Stopped, ToolError, called, clear_progress, in_words, prog
 from .sweep_beside import named_table, tables_of
 from .sweep_rows import NO_AGENTS, NO_MAP, SOLVED, USUAL, Results, Row, natural, replace
 from .sweep_scenarios import Scenario, scenarios_of
-from .texts import MOST_AGENTS, MOST_SPLITS, number_between, read_bytes, seconds_of
+from .texts import number_between, read_bytes, seconds_of
 
 HERE = Path(__file__).resolve().parent
 RUN, GAP_RUN = HERE / "sweep_run.py", HERE / "gap_run.py"

@@ -15,8 +15,8 @@ from dataclasses import dataclass
 from pathlib import Path
 from typing import overload
 
-from .library import library_for
-from .process import ToolError, progress, signals_held
+from ..library import NAME, PACKAGE, TOP, Library, line_of
+from .process import ToolError, installed, is_installed, progress, signals_held
 
 # The files in the folder that shows an answer: the problem, the other solver's plan, a certificate, what the search
 # found, and the note.
@@ -144,7 +144,7 @@ class Evidence:
         if self.library is None:
             return run(self.mapf, self.words_of_check(plan), self.folder)
         texts = [(self.folder / name).read_bytes() for name in (MAP, SCEN, plan, CERT)]
-        line = self.library.check(texts[0], texts[1], self.agents, texts[2], texts[3])
+        line = line_of(self.library.check(texts[0], texts[1], self.agents, texts[2], texts[3]))
         if line.startswith("F"):
             raise unanswered("check", line)
         return line
@@ -261,5 +261,26 @@ def has_ended(process: subprocess.Popen[str], name: str, until: float | None) ->
         try:
             process.wait(timeout=min(left, 1))
         except subprocess.TimeoutExpired:
-            progress(f"mapf {name} has been at work for {time.monotonic() - began:.0f} s")
+            tell_of_time(name, time.monotonic() - began)
     return True
+
+
+def tell_of_time(name: str, seconds: float) -> None:
+    """Shows how long a call of mapf has been at work."""
+    progress(f"mapf {name} has been at work for {seconds:.0f} s")
+
+
+def library_for(program: str) -> Library | None:
+    """The library that answers as this program does, if it is there: the one that MAPF_LIBRARY names, or the one of the
+    same package, archive or clone, if it isn't older than the program. Where MAPF_LIBRARY is empty there is none.
+    """
+    named = os.environ.get("MAPF_LIBRARY")
+    if named is not None:
+        return Library(Path(named), tell_of_time) if named else None
+    if is_installed():
+        return Library(PACKAGE / NAME, tell_of_time) if program == installed() else None
+    for beside, place in ((TOP / "mapf", TOP / "lib"), (TOP / "crates" / "mapf" / "out" / "mapf", TOP / "out")):
+        found = place / NAME
+        if Path(program) == beside and found.exists() and found.stat().st_mtime >= beside.stat().st_mtime:
+            return Library(found, tell_of_time)
+    return None

@@ -1,6 +1,6 @@
 """One run of tools/sweep: solves a problem, has the answer checked, and prints what came of it as one line of JSON.
 
-    python3 -I -S tools/mapf_tools/sweep_run.py PROGRAM FOLDER SECONDS SEARCH LIMIT MAP SCEN K
+    python3 -I -S python/mapf/tools/sweep_run.py PROGRAM FOLDER SECONDS SEARCH LIMIT MAP SCEN K
 
 A run is a program of its own, so that another machine can make it, and so that it ends when tools/sweep does, however
 that ends. It keeps its files in a new folder inside FOLDER, and removes them. It imports little: the memory that the

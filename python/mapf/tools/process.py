@@ -10,7 +10,8 @@ from collections.abc import Callable, Iterator
 from pathlib import Path
 from typing import NoReturn
 
-TOP = Path(__file__).resolve().parent.parent.parent
+from ..errors import MapfError
+from ..library import NAME, PACKAGE, TOP
 
 MOST_SECONDS_OF_VERSION = 60
 
@@ -18,7 +19,7 @@ MOST_SECONDS_OF_VERSION = 60
 ENDING = signal.SIGINT, signal.SIGTERM, signal.SIGHUP
 
 
-class ToolError(Exception):
+class ToolError(MapfError):
     """What a tool's user has to mend: one line that says what to do."""
 
 
@@ -110,9 +111,9 @@ def signals_held() -> Iterator[None]:
 
 # The program.
 
-def program() -> str:
-    """The command of mapf: what MAPF names, else the proved program of this tree, which is built first where it has to
-    be. A package that is installed takes the one on the path.
+def program(is_proved: bool = False) -> str:
+    """The command of mapf: what MAPF names, else the one that was installed with this package, or the one that ./mapf
+    of this tree runs, which is built first where it has to be. If so asked, a clone's is the proved one.
     """
     named = os.environ.get("MAPF")
     if named:
@@ -120,15 +121,16 @@ def program() -> str:
             raise ToolError(f"MAPF names {named}, which isn't a program: set it to mapf, or unset it")
         return str(Path(named).resolve())
     here = TOP / "mapf"
-    if not os.access(here, os.X_OK):
+    if is_installed() or not os.access(here, os.X_OK):
         return installed()
     prove = TOP / "prove"
     if not os.access(prove, os.X_OK):
         return str(here)  # in an archive
+    words = [] if is_proved else ["--program"]
     with contextlib.ExitStack() as at_end:
         with signals_held():
             process = at_end.enter_context(
-                subprocess.Popen([str(prove)], stdin=subprocess.DEVNULL, stdout=subprocess.PIPE, text=True))
+                subprocess.Popen([str(prove), *words], stdin=subprocess.DEVNULL, stdout=subprocess.PIPE, text=True))
             at_end.callback(process.terminate)  # it ends what it started, and removes its files
         built, _ = process.communicate()
     if process.returncode != 0:
@@ -136,8 +138,19 @@ def program() -> str:
     return built.strip()
 
 
+def is_installed() -> bool:
+    """Whether this package is installed, with the library beside it."""
+    return (PACKAGE / NAME).exists()
+
+
 def installed() -> str:
-    """The command of mapf that is on the path, for a package that isn't in the tree of mapf."""
+    """The command of mapf that was installed with this package, or else the one on the path."""
+    from importlib import metadata  # it takes long, and not every tool needs it
+
+    with contextlib.suppress(metadata.PackageNotFoundError):
+        for file in metadata.files("mapf") or ():
+            if file.name == "mapf":
+                return str(Path(file.locate()).resolve())
     found = shutil.which("mapf")
     if found is None:
         raise ToolError("there is no program mapf on the path: set MAPF to where it is")

@@ -6,6 +6,7 @@ from collections.abc import Sequence
 from dataclasses import dataclass
 from pathlib import Path
 
+from ..library import number_of
 from . import recheck
 from .answers import read_answer
 from .certificate_heads import Certificate, read_certificate
@@ -13,7 +14,7 @@ from .draw import data_of, page_of
 from .pictures import Scene, gif_of, png_of
 from .plans import Agent, Cell, Fault, Grid, faults_of
 from .process import ToolError
-from .texts import MOST_AGENTS, read_agents
+from .texts import read_agents
 
 
 @dataclass(frozen=True)
@@ -29,9 +30,7 @@ class Verdict:
 
 def read_scenario(path: str | Path, grid: Grid, count: int) -> list[Agent]:
     """The first agents of a scenario for this map, so many: 1 to 200."""
-    if not 1 <= count <= MOST_AGENTS:
-        raise ValueError(f"{count} agents are asked for, and there may be 1 to {MOST_AGENTS}")
-    return read_agents(path, grid, count)
+    return read_agents(path, grid, number_of(count))
 
 
 def read_plan(path: str | Path, agents: Sequence[Agent], name: str | None = None, is_exchanged: bool = False,

@@ -1,7 +1,7 @@
 """One run of tools/sweep --gap: how far from a cheapest plan are the plans for one problem? Prints what it finds as one
 line of JSON.
 
-    python3 -I -S tools/mapf_tools/gap_run.py PROGRAM FOLDER SECONDS SEARCH LIMITS MAP SCEN K
+    python3 -I -S python/mapf/tools/gap_run.py PROGRAM FOLDER SECONDS SEARCH LIMITS MAP SCEN K
 
 It has a first plan made, without improvements, and then the quick answer, with them: that of the first of LIMITS, as
 0,4,16,64. It goes on with the other limits until SECONDS by the clock are over since the quick answer was begun, and

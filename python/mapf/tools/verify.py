@@ -16,13 +16,13 @@ from dataclasses import dataclass
 from pathlib import Path
 from typing import NoReturn
 
+from ..limits import MOST_SPLITS
 from .answers import add_options, exchanged, mirrored, read_answer
 from .evidence import CERT, FOUND, MAP, PLAN, SCEN, Answer, Evidence, Searches, answer_of
 from .plans import Agent, Cell, Fault, Grid, faults_of, sum_of_costs
 from .process import ToolError, clear_progress, program, run_tool, signals_held, version_of
 from .sweep_rows import natural
-from .texts import (MOST_SPLITS, number_between, plan_text, problem_parser, read_agents, read_bytes, read_map,
-                    seconds_of)
+from .texts import number_between, plan_text, problem_parser, read_agents, read_bytes, read_map, seconds_of
 
 # The status of each answer. NOT_VALID stands in place of NOT_CHEAPEST where --distinct-status asks for it.
 CHEAPEST, NOT_CHEAPEST, NOT_JUDGED, UNKNOWN, NOT_VALID = 0, 1, 2, 4, 5
@@ -36,9 +36,9 @@ MOST_TOLD = 10
 HELP = """
 The answers, each with its status:
   cheapest: C                        0  the plan is valid, and no valid plan costs less
-  not cheapest: C, a plan of B ..    1  the plan is valid, and the one in the file named costs less
-  not valid: ..                      1  the plan isn't valid; faults are told, on a line of their own each, at most 10;
-                                        with --distinct-status the status is 5
+  not cheapest: C, a plan of D ..    1  the plan is valid, and the one in the file named costs less
+  not valid: ..                      1  the plan isn't valid; faults are told, on a line of their own each, at most 10,
+                                        with cells as (x,y); with --distinct-status the status is 5
   within B..C, a certificate of B ..
                                      4  the plan is valid and costs C, and no valid plan costs less than B, as the
                                         certificate in the file named shows; the search met its limit: --limit allows
@@ -72,8 +72,9 @@ the one line 'claim bound C' becomes 'claim cost C', of the same tree, for a pla
 believed. With --seconds mapf solve is called with rising limits on splits, and the last call that ended in time counts.
 
 example:
-  tools/verify examples/random-32-32.map examples/random-32-32.scen 5 examples/random-32-32-answer.txt --keep shown
-says 'cheapest: 104'. The folder 'shown' has all that somebody else needs to see so with mapf check alone, and how.
+  tools/verify examples/random-32-32.map examples/random-32-32.scen 16 examples/random-32-32-answer.txt --keep shown
+says 'not cheapest: 394, a plan of 391 is in shown/found.txt'. The folder 'shown' has all that somebody else needs to
+see so with mapf check alone, and how.
 """
 
 

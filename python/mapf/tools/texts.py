@@ -6,13 +6,9 @@ from collections.abc import Callable, Iterable
 from dataclasses import dataclass, field
 from pathlib import Path
 
+from ..limits import GREATEST_SIDE, GREATEST_SUM, MOST_AGENTS
 from .plans import FREE, Agent, Cell, Grid, cut_waits, shown, sum_of_costs
 from .process import ToolError, called
-
-MOST_AGENTS = 200
-GREATEST_SIDE = 2048
-MOST_SPLITS = 100_000
-GREATEST_SUM = 1_999_999_800
 
 # The characters of a map that stand for blocked cells.
 BLOCKED = "@OTW"
