@@ -84,7 +84,7 @@ function readPath(line) {
   return pairs.slice(0, end).map((pair) => pair.split(",").map(Number));
 }
 
-// The page's forms of the map and of a path: `blocked_bits` and `moves_of` of tools/mapf_tools/draw.py.
+// The page's forms of the map and of a path: `blocked_bits` and `moves_of` of python/mapf/tools/draw.py.
 
 function blockedBits(grid) {
   const bytes = new Uint8Array(Math.ceil((grid.width * grid.height) / 8));
@@ -114,7 +114,7 @@ function movesOf(path) {
   return parts.join("");
 }
 
-// What is wrong with a plan: `faults_of` of tools/mapf_tools/plans.py.
+// What is wrong with a plan: `faults_of` of python/mapf/tools/plans.py.
 
 function listedFaults(grid, agents, paths) {
   const found = [];
