@@ -2,7 +2,8 @@
 // was asked for. Calls are counted from 1 from the start of the program on; what the loader does before
 // isn't counted. FAIL_CALLS_LOG names a file that gets a line for each call: its kind, the last part of the
 // file's name, how many bytes were asked for, and what was answered. Kinds have the names of their calls, but
-// an open that empties the file is `make`, ftruncate is `empty`, and fsync and fdatasync are `sync`.
+// an open that empties the file is `make`, ftruncate is `empty`, and fsync and fdatasync are `sync`. A call that isn't
+// counted, since no run is to make it, is `uncounted`, with its own name in place of a file's.
 //
 //   FAIL_CALLS_AT    the number of the call, 0 for none
 //   FAIL_CALLS_HOW   a number: the call does nothing and answers this error; a close does close
@@ -17,9 +18,11 @@
 #include <stdio.h>
 #include <stdlib.h>
 #include <string.h>
+#include <sys/mman.h>
 #include <sys/stat.h>
 #include <sys/syscall.h>
 #include <sys/types.h>
+#include <sys/uio.h>
 #include <unistd.h>
 
 enum how { NEVER, FAILS, SHORT, NOTHING, FULL };
@@ -186,8 +189,20 @@ int fdatasync(int file) {
     PASSED_ON("sync", name_of(file), syscall(SYS_fdatasync, file));
 }
 
+// The name of the file that a statx asks about. Where one failed, Rust's standard library asks once more without a
+// path, to learn whether the system has this call at all. The header declares that there is always a path, so the
+// compiler would leave out the comparison with NULL if it didn't have to read the path anew.
+static const char *asked_about(int folder, const char *given) {
+    const char *volatile again = given;
+    const char *path = again;
+    if (path == NULL) {
+        return "none";
+    }
+    return *path ? last_part(path) : name_of(folder);
+}
+
 int statx(int folder, const char *path, int flags, unsigned mask, struct statx *found) {
-    PASSED_ON("stat", *path ? last_part(path) : name_of(folder), syscall(SYS_statx, folder, path, flags, mask, found));
+    PASSED_ON("stat", asked_about(folder, path), syscall(SYS_statx, folder, path, flags, mask, found));
 }
 
 int unlink(const char *path) {
@@ -200,4 +215,40 @@ int fchmod(int file, mode_t mode) {
 
 int flock(int file, int how_to_lock) {
     PASSED_ON("flock", name_of(file), syscall(SYS_flock, file, how_to_lock));
+}
+
+// Rust's standard library is linked with these too. It would call them to tell of a panic, and some of them on a system
+// without statx.
+#define UNCOUNTED(call) return told("uncounted", __func__, 0, 0), (call)
+
+int fstat64(int file, struct stat64 *found) {
+    UNCOUNTED(syscall(SYS_fstat, file, found));
+}
+
+int stat64(const char *path, struct stat64 *found) {
+    UNCOUNTED(syscall(SYS_newfstatat, AT_FDCWD, path, found, 0));
+}
+
+off64_t lseek64(int file, off64_t offset, int whence) {
+    UNCOUNTED(syscall(SYS_lseek, file, offset, whence));
+}
+
+ssize_t readlink(const char *path, char *target, size_t size) {
+    UNCOUNTED(syscall(SYS_readlinkat, AT_FDCWD, path, target, size));
+}
+
+char *getcwd(char *path, size_t size) {
+    UNCOUNTED(syscall(SYS_getcwd, path, size) < 0 ? NULL : path);
+}
+
+void *mmap64(void *at, size_t size, int protection, int flags, int file, off64_t offset) {
+    UNCOUNTED((void *)syscall(SYS_mmap, at, size, protection, flags, file, offset));
+}
+
+int munmap(void *at, size_t size) {
+    UNCOUNTED(syscall(SYS_munmap, at, size));
+}
+
+ssize_t writev(int file, const struct iovec *pieces, int count) {
+    UNCOUNTED(syscall(SYS_writev, file, pieces, count));
 }

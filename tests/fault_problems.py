@@ -65,8 +65,8 @@ DRAWN = [("open", 8, 2, AMPLE), ("open", 8, 2, 1), ("open", 10, 2, AMPLE), ("ope
          ("maze", 5, 1, AMPLE), ("maze", 5, 1, 5), ("maze", 6, 2, AMPLE), ("maze", 6, 3, AMPLE), ("maze", 6, 3, 1),
          ("corridors", 3, 1, AMPLE), ("corridors", 3, 1, 2), ("corridors", 4, 2, AMPLE), ("corridors", 5, 1, AMPLE)]
 
-# More agents, of which the second search searches groups by themselves, or packs what they cost more together. Each takes
-# a preview some seconds at most.
+# More agents, of which the second search searches groups by themselves, or packs what they cost more together. Each
+# takes `rt try` some seconds at most.
 CROWDED = [("open", 13, 1, AMPLE), ("open", 15, 1, AMPLE), ("open", 16, 3, AMPLE), ("open", 18, 1, AMPLE),
            ("random", 13, 4, AMPLE), ("random", 14, 1, AMPLE), ("random", 15, 2, AMPLE), ("random", 16, 3, AMPLE),
            ("rooms", 9, 3, AMPLE), ("rooms", 10, 5, AMPLE), ("pillars", 6, 3, AMPLE),

@@ -1,5 +1,5 @@
-"""One preview of the program in which many second searches, or many plans that it begins with, stand beside each other,
-each with a fault of its own, so that it is built once. The height of a map tells which of them answers.
+"""One program in which many second searches, or many plans that it begins with, stand beside each other, each with a
+fault of its own. It runs by `rt try`, before any proof. The height of a map tells which of them answers.
 """
 
 import re
@@ -23,8 +23,8 @@ FIRST = 100
 # How many seconds one run may take. Without a fault it takes a few at most.
 SECONDS = 60
 
-# The crate that finds prices, its file with the numbers of states that it may expand, and by which each is divided: a
-# preview expands states a hundred times as slowly as the built program.
+# The crate that finds prices, its file with the numbers of states that it may expand, and by which each is divided:
+# `rt try` expands states a hundred times as slowly as the built program.
 PRICES, BUDGETS_FILE, BUDGET, DIVISOR = "mapf_prices", "src/rounded.rt", re.compile(r"(?<=states: )[0-9_]+"), 100
 
 
@@ -209,7 +209,7 @@ def put(place, text):
 
 
 def run_all(room, runs):
-    """Runs the program in a folder with each list of words, all in one preview. Answers how each ended, by its name."""
+    """Runs the program in a folder with each list of words, by one `rt try`. Answers how each ended, by its name."""
     cases = Path(tempfile.mkdtemp(prefix="cases", dir=room))
     for name, words in runs.items():
         (cases / name).write_text("")
@@ -224,7 +224,7 @@ def run_all(room, runs):
 
 
 def endings(stdout, stderr):
-    """How each case ended, by what the preview printed: outputs under their names, and after each error its end."""
+    """How each case ended, by what `rt try` printed: outputs under their names, and after each error its end."""
     outputs = dict(re.findall(r"^== (\S+)\n((?:(?!== ).*\n)*)", stdout, re.MULTILINE))
     found, errors = {}, []
     for line in stderr.splitlines(keepends=True):

@@ -12,7 +12,10 @@ from dataclasses import dataclass
 from pathlib import Path
 
 TESTS = Path(__file__).resolve().parent
-PROGRAM = TESTS.parent / "crates" / "mapf" / "out" / "mapf"
+
+# The proved program, and the program that the scripts try: what MAPF names, else the proved one.
+PROVED = TESTS.parent / "crates" / "mapf" / "out" / "mapf"
+PROGRAM = Path(os.environ.get("MAPF") or PROVED).absolute()
 
 # What one run may take before it counts as failed, and how long a test waits for what has to come.
 SECONDS = 300
@@ -35,11 +38,11 @@ STREAMS = ("stdin", "stdout", "stderr")
 OLD = b"what stood here before\n" * 200
 
 
-def is_program_there(program=PROGRAM):
+def is_program_there():
     """Whether the program is there. Where it isn't, a line says what to do."""
-    if os.path.exists(program):
+    if PROGRAM.exists():
         return True
-    print(f"{program} isn't there: build it by ./prove or ./test")
+    print(f"{PROGRAM} isn't there: build it by ./prove or ./test, or set MAPF to a program that is built")
     return False
 
 

@@ -9,10 +9,10 @@ import time
 from harness import TESTS, cases_of
 from lemma_vectors import check_vectors
 
-sys.path[:0] = [str(TESTS / "tools"), str(TESTS.parent / "tools")]
+sys.path[:0] = [str(TESTS / "tools"), str(TESTS.parent / "python")]
 
-from mapf_tools.draw import all_faults, data_of
-from mapf_tools.texts import plan_text, read_agents, read_map
+from mapf.tools.draw import all_faults, data_of
+from mapf.tools.texts import plan_text, read_agents, read_map
 
 TOP = TESTS.parent
 PAGE = TOP / "web" / "check.html"

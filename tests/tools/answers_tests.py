@@ -10,12 +10,12 @@ from pathlib import Path
 
 from harness import TESTS
 
-from mapf_tools.answers import as_plan_text, read_answer
-from mapf_tools.plans import Agent, Grid, faults_of
-from mapf_tools.process import ToolError
-from mapf_tools.texts import plan_text
+from mapf.tools.answers import as_plan_text, read_answer
+from mapf.tools.plans import Agent, Grid, faults_of
+from mapf.tools.process import ToolError
+from mapf.tools.texts import plan_text
 
-TOOLS = TESTS.parent / "tools"
+PYTHON = TESTS.parent / "python"
 
 # Two agents go to and fro for so many ticks. Of each format a file has some 5 MB, and is read with so much memory.
 TICKS = 200_000
@@ -26,7 +26,7 @@ STARTS = [(0, 0), (0, 1)]
 
 # Reads an answer of two agents with little memory, and prints the sum of the ticks and the last cells.
 READS = ("import resource, sys; resource.setrlimit(resource.RLIMIT_AS, (int(sys.argv[2]),) * 2); "
-         "from mapf_tools.answers import read_answer; paths = read_answer(sys.argv[1], [(0, 0), (0, 1)]); "
+         "from mapf.tools.answers import read_answer; paths = read_answer(sys.argv[1], [(0, 0), (0, 1)]); "
          "print(sum(map(len, paths)), *(path[-1] for path in paths))")
 
 
@@ -68,7 +68,7 @@ def large_answers():
 def large_faults(folder, text):
     path = folder / "large"
     path.write_text(text)
-    ended = subprocess.run([sys.executable, "-c", READS, str(path), str(MOST_BYTES)], cwd=TOOLS, capture_output=True,
+    ended = subprocess.run([sys.executable, "-c", READS, str(path), str(MOST_BYTES)], cwd=PYTHON, capture_output=True,
                            text=True)
     wanted = f"{2 * TICKS} (1, 0) (1, 1)\n"
     return [] if ended.stdout == wanted else [f"{len(text)} bytes: {ended.stdout!r}, {ended.stderr[-200:]!r}"]

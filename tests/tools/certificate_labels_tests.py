@@ -11,7 +11,7 @@ from certificate_page_tests import (CASES, DAMAGE, EXAMPLES, LEVELS, MOST_LINES,
                                     example_words, files_of, large_tree, open_case, opened, page)
 from draw_tests import CROSSING, point_of
 
-from mapf_tools.certificate_page import Room
+from mapf.tools.certificate_page import Room
 
 # The certificate of the example: a block with its entries.
 BLOCK = re.compile(r"^agent (\d+) (\d+)\n((?:at .*\n)+)", re.MULTILINE)

@@ -10,7 +10,7 @@ from browser import Browser, installed
 from draw_tests import CROSSING, data_in, drawn, point_of
 from harness import TESTS
 
-from mapf_tools.texts import plan_text
+from mapf.tools.texts import plan_text
 
 CASES = TESTS / "cases"
 EXAMPLES = TESTS.parent / "examples"

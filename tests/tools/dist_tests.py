@@ -31,6 +31,7 @@ def tests(tally):
         return
     with tempfile.TemporaryDirectory() as name:
         folder = Path(name)
+        try_without_a_program(tally, folder / "none")
         archive, faults = made(folder / "one")
         tally.add("dist", faults)
         if faults:
@@ -49,6 +50,7 @@ def tests(tally):
             tally.add(f"dist, unpacked, {title}", run_faults(place, path, words, status, said))
         tally.add("dist, the man page and the completions", shared_faults(place))
         try_library(tally, place, folder)
+        try_sources(tally, place)
 
 
 def made(folder):
@@ -59,9 +61,28 @@ def made(folder):
     archive = Path(ended.stdout.strip())
     if ended.returncode == 0 and (faults := checksum_faults(archive, ended.stderr)):
         return archive, faults
-    named = re.fullmatch(r"mapf-[0-9]+\.[0-9]+\.[0-9]+\.tar\.gz", archive.name)
+    commit = subprocess.run(["git", "rev-parse", "HEAD"], cwd=TOP, check=True, capture_output=True, text=True).stdout
+    named = re.fullmatch(rf"mapf-[0-9]+\.[0-9]+\.[0-9]+(-dev-{commit[:8]})?\.tar\.gz", archive.name)
     is_there = ended.returncode == 0 and named and list(folder.iterdir()) == [archive]
     return archive, [] if is_there else [f"status {ended.returncode}, {ended.stdout!r}, {ended.stderr!r}"]
+
+
+def try_without_a_program(tally, folder):
+    """In a tree where nothing is proved, and where nothing can be, no archive is made."""
+    path = "/usr/bin:/bin"
+    if shutil.which("rt", path=path):
+        tally.skip("dist, without the toolchain", "since it is among the system's commands")
+        return
+    for name in ("tools", "python"):
+        shutil.copytree(TOP / name, folder / name)
+    for name in ("dist", "mapf", "prove", "program.bash", "crates.txt"):
+        shutil.copy(TOP / name, folder / name)
+    ended = subprocess.run([sys.executable, str(folder / "dist")], env={"PATH": path}, stdin=subprocess.DEVNULL,
+                           capture_output=True, text=True)
+    lines = ended.stderr.splitlines()
+    is_told = len(lines) == 2 and "the Rattle toolchain, isn't here" in lines[0] and lines[1].startswith("dist: ")
+    tally.add("dist, without the toolchain", [] if ended.returncode == 2 and not ended.stdout and is_told
+              else [f"status {ended.returncode}, {ended.stdout!r}, {ended.stderr!r}"])
 
 
 def checksum_faults(archive, said):
@@ -128,17 +149,28 @@ def shared_faults(place):
 
 
 def try_library(tally, place, folder):
-    """A program in C is compiled as pkg-config says, over the library in the archive, and runs."""
+    """A program in C is compiled as pkg-config says, over the library in the archive, and runs, and so does the package
+    for Python.
+    """
     if not (place / "lib").exists():
         tally.skip("dist, the library for C", "since ./library hasn't made it for this program")
         return
     names = sorted(str(path.relative_to(place / "lib")) for path in (place / "lib").rglob("*") if path.is_file())
     wanted = ["libmapf.a", "libmapf.so", "pkgconfig/mapf.pc"]
     tally.add("dist, the library's files", [] if names == wanted else [f"there are {names}, wanted {wanted}"])
+    tally.add("dist, the package for Python", python_faults(place))
     if not shutil.which("gcc") or not shutil.which("pkg-config"):
         tally.skip("dist, a program in C", "since gcc or pkg-config isn't there")
         return
     tally.add("dist, a program in C", compiled_faults(place, folder))
+
+
+def python_faults(place):
+    code = "import mapf; print(mapf.solve([[1] * 3] * 3, [(0, 1)], [(2, 1)]))"
+    ended = subprocess.run([sys.executable, "-B", "-c", code], env={"PYTHONPATH": str(place / "python")},
+                           capture_output=True, text=True)
+    is_right = ended.stdout == "Answer(kind='optimal', cost=2, bound=2)\n"
+    return [] if is_right else [f"it says {ended.stdout!r}, {ended.stderr[-300:]!r}"]
 
 
 def compiled_faults(place, folder):
@@ -151,9 +183,26 @@ def compiled_faults(place, folder):
     if ended.returncode:
         return [f"gcc says {ended.stderr[:600]!r} after {told}"]
     said = subprocess.run([program, "version"], capture_output=True, text=True).stdout
-    numbers = [int(number) for number in told[2].strip().split(".")]
+    numbers = [int(number) for number in told[2].strip().partition("-")[0].split(".")]
     version = numbers[0] * 1_000_000 + numbers[1] * 1_000 + numbers[2]
     return [] if said == f"{version} {version}\n" else [f"the version is {said!r}, and {told[2]} by pkg-config"]
+
+
+def try_sources(tally, place):
+    """The package of cargo has each source of the crates, as it is in the tree, and what cargo needs besides."""
+    if not shutil.which("cargo"):
+        tally.skip("dist, the sources", "since cargo isn't there")
+        return
+    packages = list(place.glob("mapf-*.crate"))
+    if len(packages) != 1:
+        tally.add("dist, the sources", [f"there are {packages}"])
+        return
+    with tarfile.open(packages[0]) as packed:
+        texts = {name.partition("/")[2]: packed.extractfile(name).read() for name in packed.getnames()}
+    wanted = ["crates.txt", "build.rs", "LICENSE", *(str(it.relative_to(TOP)) for it in TOP.glob("rust/src/**/*.rs"))]
+    wanted += [str(it.relative_to(TOP)) for it in TOP.glob("crates/mapf*/src/*.rt") if "mapf_rows" not in str(it)]
+    tally.add("dist, the sources", [f"{name} isn't packed as it is" for name in wanted
+                                    if texts.get(name) != (TOP / name).read_bytes()])
 
 
 def missing_links(place):
@@ -181,9 +230,9 @@ def commands(folder):
 
 def runs(place):
     """What is run in the archive's folder: the words, the status and what standard output tells."""
-    problem = [GRID, SCEN, "5"]
+    problem, version = [GRID, SCEN, "5"], re.sub("(?<=-dev)-.*", "", place.name.removeprefix("mapf-"))
     found = {
-        "version": (["./mapf", "--version"], 0, f"mapf {place.name.removeprefix('mapf-')}\n"),
+        "version": (["./mapf", "--version"], 0, f"mapf {version}\n"),
         "solve": (["./mapf", "solve", *problem, "100", "plan.txt", "cert.txt"], 0, "cost 104\n"),
         "check": (["./mapf", "check", *problem, "plan.txt", "cert.txt"], 0, "optimal 104\n"),
         "checksums": (["sha256sum", "--quiet", "-c", "SHA256SUMS"], 0, ""),

@@ -13,8 +13,8 @@ from answers_tests import spelled
 from browser import Browser, installed
 from harness import TESTS
 
-from mapf_tools.colours import colours
-from mapf_tools.texts import plan_text, read_agents, read_map
+from mapf.tools.colours import colours
+from mapf.tools.texts import plan_text, read_agents, read_map
 
 TOP = TESTS.parent
 DRAW = TOP / "tools" / "draw"

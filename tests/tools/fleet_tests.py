@@ -13,8 +13,8 @@ from draw_tests import cells_of, data_in, drawn
 from harness import SECONDS, TESTS
 from uncycle_tests import SQUARE, UNCYCLE, paths_in, written
 
-from mapf_tools.answers import read_answer
-from mapf_tools.process import ToolError
+from mapf.tools.answers import read_answer
+from mapf.tools.process import ToolError
 
 TOP = TESTS.parent
 FLEET = TOP / "examples" / "fleet"

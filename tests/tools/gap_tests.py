@@ -13,7 +13,7 @@ from xml.etree import ElementTree
 from harness import SECONDS, awaited
 from sweep_bench import Bench
 
-from mapf_tools import gap_points, gap_report
+from mapf.tools import gap_points, gap_report
 
 # What the script answers for a scenario and a number of agents: the first plan, then with LIMIT 0, 4, 16 and 20. A
 # problem that isn't here has the cost 10.

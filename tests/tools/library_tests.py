@@ -1,5 +1,5 @@
-"""Tries the library of ./library from Python: what it says of the cases of `check`, and that tools/verify says the
-same by it as by the program.
+"""Tries the library for C from Python: what it says of the cases of `check`, and that tools/verify says the same by it
+as by the program.
 """
 
 import os
@@ -8,32 +8,33 @@ import sys
 import tempfile
 from pathlib import Path
 
+from cargo_builds import library as library_file
 from harness import TESTS, cases_of
 from json_objects import line_of
 from verify_tests import CROSSING_MAP, CROSSING_SCEN, PATHS, VERIFY
 
-from mapf_tools.library import Library, library_for
-from mapf_tools.process import ToolError
-
-SHARED = TESTS.parent / "out" / "libmapf.so"
+from mapf.library import Library
+from mapf.library import line_of as told_line
+from mapf.tools.evidence import library_for
 
 
 def tests(tally):
     with tempfile.TemporaryDirectory() as name:
         tally.add("library, no library", refused_faults(Path(name)))
-    if not SHARED.exists():
-        tally.skip("library", "since ./library hasn't made it")
+    file = library_file()
+    if file is None:
+        tally.skip("library", "since ./library hasn't made it, and cargo isn't there")
         return
-    library = Library(SHARED)
+    library = Library(file)
     for case in [*cases_of(TESTS / "cases"), *cases_of(TESTS / "version3")]:
         if is_taken(case):
             tally.add(f"library, {case.name}", case_faults(library, case))
     for agents in (0, 201, -1, 2 ** 32 + 1):
         tally.add(f"library, {agents} agents", number_faults(library, agents))
-    tally.add("library, which one is taken", choice_faults())
+    tally.add("library, which one is taken", choice_faults(file))
     for kind, text in PATHS.items():
         with tempfile.TemporaryDirectory() as name:
-            tally.add(f"library, verify of {kind}", verify_faults(Path(name), text))
+            tally.add(f"library, verify of {kind}", verify_faults(Path(name), text, file))
 
 
 def is_taken(case):
@@ -45,7 +46,7 @@ def is_taken(case):
 
 def case_faults(library, case):
     texts = dict(case.inputs())
-    told = library.check(texts["map"], texts["scen"], int(case.agents()), texts["plan"], texts["cert"])
+    told = told_line(library.check(texts["map"], texts["scen"], int(case.agents()), texts["plan"], texts["cert"]))
     return [] if told.encode() + b"\n" == line_of(case) else [f"it says {told!r}, wanted {line_of(case)!r}"]
 
 
@@ -65,17 +66,17 @@ def refused_faults(folder):
         try:
             Library(path)
             faults.append(f"{path.name} is taken")
-        except ToolError as error:
+        except OSError as error:
             faults += [] if "MAPF_LIBRARY" in str(error) else [str(error)]
     return faults
 
 
-def choice_faults():
+def choice_faults(file):
     """The library that MAPF_LIBRARY names is taken, none where it is empty, and none for another program."""
     faults = []
     was = os.environ.get("MAPF_LIBRARY")
     try:
-        for named, is_there in ((str(SHARED), True), ("", False)):
+        for named, is_there in ((str(file), True), ("", False)):
             os.environ["MAPF_LIBRARY"] = named
             faults += [] if (library_for("/bin/true") is not None) == is_there else [f"{named!r} is taken otherwise"]
         del os.environ["MAPF_LIBRARY"]
@@ -86,10 +87,10 @@ def choice_faults():
     return faults
 
 
-def verify_faults(folder, text):
+def verify_faults(folder, text, file):
     """tools/verify prints the same, with the same status, and leaves the same files."""
     found = []
-    for name, named in (("program", ""), ("library", str(SHARED))):
+    for name, named in (("program", ""), ("library", str(file))):
         place = folder / name
         place.mkdir()
         for file, content in (("map", CROSSING_MAP), ("scen", CROSSING_SCEN), ("answer", text)):

@@ -12,9 +12,9 @@ from pathlib import Path
 
 from draw_tests import BAD, DRAW, FAULTY, MAP, SCEN, VALID, drawn, large_problem
 
-from mapf_tools.colours import colours
-from mapf_tools.image_files import Image, gif, png
-from mapf_tools.texts import plan_text
+from mapf.tools.colours import colours
+from mapf.tools.image_files import Image, gif, png
+from mapf.tools.texts import plan_text
 
 
 def tests(tally):

@@ -24,7 +24,7 @@ AS_OLD = ("import runpy, sys; sys.version_info, sys.version = (3, 9, 2, 'final',
 def tests(tally):
     for name in TOOLS:
         tally.add(f"python, {name} as if by 3.9.2", told_faults([sys.executable, "-c", AS_OLD], name, "3.9.2"))
-    for name in (*TOOLS, "tools/oldest_python.py"):
+    for name in (*TOOLS, "tools/in_tree.py"):
         tally.add(f"python, the forms of {name}", newer_forms(name))
     old = next(filter(is_there, OLD), None)
     if old is None:

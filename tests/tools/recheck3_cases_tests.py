@@ -4,7 +4,7 @@ each of them.
 
 from harness import TESTS
 
-from mapf_tools import recheck
+from mapf.tools import recheck
 
 
 def tests(tally):

@@ -11,7 +11,7 @@ from pathlib import Path
 from answers_tests import spelled
 from harness import TESTS, Ended, cases_of, run, told
 
-from mapf_tools import recheck  # as a module, so that thousands of runs don't start Python each
+from mapf.tools import recheck  # as a module, so that thousands of runs don't start Python each
 
 RECHECK = TESTS.parent / "tools" / "recheck"
 EXAMPLES = TESTS.parent / "examples"

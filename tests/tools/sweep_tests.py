@@ -16,7 +16,7 @@ from xml.etree import ElementTree
 
 from harness import SECONDS, awaited
 from sweep_bench import NUMBERS, SWEEP, Bench
-from mapf_tools.sweep_rows import OLD_NAMES
+from mapf.tools.sweep_rows import OLD_NAMES
 
 
 def tests(tally):

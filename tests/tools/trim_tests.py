@@ -15,7 +15,7 @@ from recheck_tests import accepted_cases, solved_cases, solved_examples
 from rule_vectors import vectors_of
 from versions import TITLE, TITLE_TWO
 
-from mapf_tools import trim
+from mapf.tools import trim
 
 TRIM = TESTS.parent / "tools" / "trim"
 CASES = TESTS / "cases"

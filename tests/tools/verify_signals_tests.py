@@ -86,7 +86,8 @@ def ended_as_built(*sent):
     with tempfile.TemporaryDirectory() as name:
         folder = Path(name)
         tree = folder / "tree"
-        shutil.copytree(VERIFY.parent, tree / "tools")
+        for part in ("tools", "python"):
+            shutil.copytree(VERIFY.parent.parent / part, tree / part)
         script(tree, "")
         (tree / "prove").write_text(
             f'#!/bin/bash\nsleep 1000 &\nown=$!\n'
