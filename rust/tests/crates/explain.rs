@@ -1,0 +1,1 @@
+//! Lines that `explain` tells the meaning of.

@@ -1,0 +1,1 @@
+//! The judge of plans and certificates that were read.

@@ -1,0 +1,1 @@
+//! Values of the types that the calls share: verdicts, devices, converted certificates.
