@@ -84,7 +84,8 @@ pub const CROSSING: Given = Given { map: CROSSING_MAP, scen: CROSSING_SCEN, k: 2
 
 pub const CROSSING_PLAN: &str = "mapf-plan 2\nagents 2\ncost 5\npath 0 3 0,1 0,1 1,1 2,1\npath 1 2 1,0 1,1 1,2\nend\n";
 
-pub const CROSSING_CERT: &str = "mapf-cert 2\nagents 2\nclaim cost 5\nvertex 0 1 1,1 1 0\nleaf 1\nagent 0 1\nat 0,1 0 3\n\
+pub const CROSSING_CERT: &str = "\
+mapf-cert 2\nagents 2\nclaim cost 5\nvertex 0 1 1,1 1 0\nleaf 1\nagent 0 1\nat 0,1 0 3\n\
 leaf 1\nagent 1 1\nat 1,0 0 3\nend\n";
 
 /// Agents of the crossing that ask to go on, and the replies to them.
@@ -112,7 +113,8 @@ pub const NICHE: Given = Given {
 
 pub const NICHE_PLAN: &str = "mapf-plan 2\nagents 2\ncost 4\npath 0 2 0,0 1,0 2,0\npath 1 2 1,0 1,1 1,0\nend\n";
 
-pub const NICHE_CERT: &str = "mapf-cert 2\nagents 2\nclaim cost 4\nvertex 0 1 1,0 1 0\nvertex 0 1 1,0 2 1\nagent 0 1\nat 0,0 0 3\n\
+pub const NICHE_CERT: &str = "\
+mapf-cert 2\nagents 2\nclaim cost 4\nvertex 0 1 1,0 1 0\nvertex 0 1 1,0 2 1\nagent 0 1\nat 0,0 0 3\n\
 vertex 0 1 1,0 3 1\nagent 0 2\nat 0,0 0 4\nat 0,0 1 3\n\
 leaf 1\nagent 0 3\nat 0,0 0 5\nat 0,0 1 4\nat 0,0 2 3\n\
 leaf 1\nagent 1 9\nat 1,0 0 4\nat 0,0 1 3\nat 1,0 1 3\nat 2,0 1 3\n\
@@ -125,7 +127,8 @@ leaf 1\nagent 1 1\nat 1,0 0 2\nend\n";
 /// The same with a split too few.
 pub const NICHE_STOPPED_PLAN: &str = "mapf-plan 2\nagents 2\nlimit 4 bound 4\nend\n";
 
-pub const NICHE_STOPPED_CERT: &str = "mapf-cert 2\nagents 2\nclaim bound 4\nvertex 0 1 1,0 1 0\nvertex 0 1 1,0 2 1\nagent 0 1\nat 0,0 0 3\n\
+pub const NICHE_STOPPED_CERT: &str = "\
+mapf-cert 2\nagents 2\nclaim bound 4\nvertex 0 1 1,0 1 0\nvertex 0 1 1,0 2 1\nagent 0 1\nat 0,0 0 3\n\
 vertex 0 1 1,0 3 1\nagent 0 2\nat 0,0 0 4\nat 0,0 1 3\n\
 leaf 1\nagent 0 3\nat 0,0 0 5\nat 0,0 1 4\nat 0,0 2 3\n\
 leaf 1\nagent 1 9\nat 1,0 0 4\nat 0,0 1 3\nat 1,0 1 3\nat 2,0 1 3\n\
@@ -144,7 +147,8 @@ pub const EXCHANGE: Given = Given {
 /// No plan is valid, and no number of splits shows it.
 pub const EXCHANGE_STOPPED_PLAN: &str = "mapf-plan 2\nagents 2\nlimit 3 bound 4\nend\n";
 
-pub const EXCHANGE_STOPPED_CERT: &str = "mapf-cert 2\nagents 2\nclaim bound 4\nswap 0 1 0,0 1,0 0 0\n\
+pub const EXCHANGE_STOPPED_CERT: &str = "\
+mapf-cert 2\nagents 2\nclaim bound 4\nswap 0 1 0,0 1,0 0 0\n\
 vertex 0 1 0,0 1 1\nagent 0 1\nat 0,0 0 2\nleaf 1\nagent 0 1\nat 0,0 0 inf\n\
 leaf 1\nagent 1 1\nat 1,0 0 2\n\
 vertex 0 1 1,0 1 1\nagent 1 1\nat 1,0 0 2\nleaf 1\nagent 0 1\nat 0,0 0 2\n\
@@ -162,7 +166,8 @@ pub const SHARED_START: Given = Given {
 
 pub const SHARED_START_PLAN: &str = "mapf-plan 2\nagents 2\nimpossible\nend\n";
 
-pub const SHARED_START_CERT: &str = "mapf-cert 2\nagents 2\nclaim impossible\nvertex 0 1 0,0 0 0\nleaf 1\nagent 0 1\nat 0,0 0 inf\n\
+pub const SHARED_START_CERT: &str = "\
+mapf-cert 2\nagents 2\nclaim impossible\nvertex 0 1 0,0 0 0\nleaf 1\nagent 0 1\nat 0,0 0 inf\n\
 leaf 1\nagent 1 1\nat 0,0 0 inf\nend\n";
 
 pub const SHARED_START_STOPPED_PLAN: &str = "mapf-plan 2\nagents 2\nlimit 0 bound 3\nend\n";
@@ -219,10 +224,12 @@ pub const AT_REST_ONE: &str = "mapf-cert 1\nagents 1\nclaim cost 0\nleaf 0\nend\
 
 pub const CORRIDOR_ONE: &str = "mapf-cert 1\nagents 1\nclaim cost 2\nleaf 0\nend\n";
 
-pub const CROSSING_ONE: &str = "mapf-cert 1\nagents 2\nclaim cost 5\nvertex 0 1 1,1 1\nleaf 1\nagent 0 1\nat 0,1 0 3\n\
+pub const CROSSING_ONE: &str = "\
+mapf-cert 1\nagents 2\nclaim cost 5\nvertex 0 1 1,1 1\nleaf 1\nagent 0 1\nat 0,1 0 3\n\
 leaf 1\nagent 1 1\nat 1,0 0 3\nend\n";
 
-pub const NICHE_ONE: &str = "mapf-cert 1\nagents 2\nclaim cost 4\nvertex 0 1 1,0 1\nvertex 0 1 1,0 2\nvertex 0 1 1,0 3\n\
+pub const NICHE_ONE: &str = "\
+mapf-cert 1\nagents 2\nclaim cost 4\nvertex 0 1 1,0 1\nvertex 0 1 1,0 2\nvertex 0 1 1,0 3\n\
 leaf 1\nagent 0 3\nat 0,0 0 5\nat 0,0 1 4\nat 0,0 2 3\n\
 leaf 2\nagent 0 2\nat 0,0 0 4\nat 0,0 1 3\nagent 1 9\nat 1,0 0 4\nat 0,0 1 3\nat 1,0 1 3\nat 2,0 1 3\n\
 at 1,1 1 3\nat 0,0 2 2\nat 1,0 2 2\nat 2,0 2 2\nat 1,1 2 2\n\
@@ -232,7 +239,8 @@ leaf 2\nagent 0 2\nat 0,0 0 3\nat 1,0 1 2\nagent 1 1\nat 1,0 0 2\n\
 leaf 1\nagent 1 1\nat 1,0 0 2\nend\n";
 
 /// The same tree in version 2, without blocks on its splits.
-pub const NICHE_CONVERTED: &str = "mapf-cert 2\nagents 2\nclaim cost 4\nvertex 0 1 1,0 1 0\nvertex 0 1 1,0 2 0\nvertex 0 1 1,0 3 0\n\
+pub const NICHE_CONVERTED: &str = "\
+mapf-cert 2\nagents 2\nclaim cost 4\nvertex 0 1 1,0 1 0\nvertex 0 1 1,0 2 0\nvertex 0 1 1,0 3 0\n\
 leaf 1\nagent 0 3\nat 0,0 0 5\nat 0,0 1 4\nat 0,0 2 3\n\
 leaf 2\nagent 0 2\nat 0,0 0 4\nat 0,0 1 3\nagent 1 9\nat 1,0 0 4\nat 0,0 1 3\nat 1,0 1 3\nat 2,0 1 3\n\
 at 1,1 1 3\nat 0,0 2 2\nat 1,0 2 2\nat 2,0 2 2\nat 1,1 2 2\n\
@@ -241,7 +249,8 @@ swap 0 1 0,0 1,0 0 0\nleaf 2\nagent 0 1\nat 0,0 0 3\nagent 1 1\nat 1,0 0 2\nswap
 leaf 2\nagent 0 2\nat 0,0 0 3\nat 1,0 1 2\nagent 1 1\nat 1,0 0 2\n\
 leaf 1\nagent 1 1\nat 1,0 0 2\nend\n";
 
-pub const SHARED_START_ONE: &str = "mapf-cert 1\nagents 2\nclaim impossible\nvertex 0 1 0,0 0\nleaf 1\nagent 0 1\nat 0,0 0 inf\n\
+pub const SHARED_START_ONE: &str = "\
+mapf-cert 1\nagents 2\nclaim impossible\nvertex 0 1 0,0 0\nleaf 1\nagent 0 1\nat 0,0 0 inf\n\
 leaf 1\nagent 1 1\nat 0,0 0 inf\nend\n";
 
 pub const SHARED_GOAL_ONE: &str = "mapf-cert 1\nagents 2\nclaim impossible\nclash 0 1\nend\n";
