@@ -17,7 +17,7 @@ enum Answer {
 }
 
 impl Answer {
-    /// The answer of a search by plain search, after the check refused that of the second search for this reason.
+    /// The answer of plain search, after the check refused that of the second search for this reason.
     fn after(refused: CheckFault, kind: Kind) -> Answer {
         Answer::SearchBy(Ok(Answered { kind, refused: Some(refused) }))
     }
