@@ -1,14 +1,14 @@
 //! Checks of a plan text and a certificate, of changed texts, and of certificates that come from a source.
 use crate::crates::mapf_checker::{CheckFault, FromFault, Verdict, check, check_from};
 use crate::crates::mapf_model::devices::{FuseSource, Pace};
-use crate::crates::mapf_model::{BytesSource, Source};
+use crate::crates::mapf_model::{BytesSource, Problem, Source};
 use crate::problems::{CROSSING, CROSSING_PLAN, Given, plan_in_other_version, with_lines};
 use crate::rattle_std::alloc::Global;
 use std::ops::RangeInclusive;
 
 /// What the check says of a plan text and a certificate.
-pub fn judged(given: &Given, plan: &str, cert: &str) -> Result<Verdict, CheckFault> {
-    check(Global, &given.problem(), plan.as_bytes(), cert.as_bytes())
+pub fn judged(problem: &Problem, plan: &str, cert: &str) -> Result<Verdict, CheckFault> {
+    check(Global, problem, plan.as_bytes(), cert.as_bytes())
 }
 
 /// The crossing's plan text in version 1.
@@ -17,14 +17,14 @@ pub fn crossing_plan() -> String {
 }
 
 /// Which lines of a text are replaced by which, and what is said then.
-pub type Change<A> = (RangeInclusive<usize>, &'static str, A);
+pub type Change = (RangeInclusive<usize>, &'static str, Result<Verdict, CheckFault>);
 
 /// Beside the crossing's plan the check says this of each changed certificate.
 #[track_caller]
-pub fn assert_judged(cert: &str, changes: &[Change<Result<Verdict, CheckFault>>]) {
+pub fn assert_judged(cert: &str, changes: &[Change]) {
     for (replaced, lines, answer) in changes {
         let changed = with_lines(cert, replaced.clone(), lines);
-        assert_eq!(judged(&CROSSING, &crossing_plan(), &changed), *answer, "{changed}");
+        assert_eq!(judged(&CROSSING.problem(), &crossing_plan(), &changed), *answer, "{changed}");
     }
 }
 
@@ -37,7 +37,7 @@ pub fn assert_claimed(given: &Given, cert: &str, cases: &[Claimed]) {
     for (version, says, claims, answer) in cases {
         let plan = format!("mapf-plan {version}\nagents 2\n{says}\nend\n");
         let claiming = with_lines(cert, 3..=3, &format!("claim {claims}\n"));
-        assert_eq!(judged(given, &plan, &claiming), *answer, "{says}, {claims}");
+        assert_eq!(judged(&given.problem(), &plan, &claiming), *answer, "{says}, {claims}");
     }
 }
 

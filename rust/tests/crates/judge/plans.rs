@@ -5,7 +5,7 @@ use crate::crates::mapf_checker::{CheckFault, FromFault, PlanFault, Verdict, che
 use crate::crates::mapf_model::Source;
 use crate::crates::mapf_model::devices::{FuseSource, Pace};
 use crate::made::{plan_of, problem_of};
-use crate::problems::{CROSSING, CROSSING_ONE, CROSSING_PLAN, Given, SHARED_GOAL_ONE, with_lines};
+use crate::problems::{CROSSING, CROSSING_ONE, CROSSING_PLAN, SHARED_GOAL_ONE, SHARED_GOAL_PLAN, with_lines};
 use crate::rattle_std::alloc::Global;
 
 #[test]
@@ -15,34 +15,21 @@ fn the_costs_are_added_up() {
 }
 
 #[test]
-fn the_plan_of_the_crossing_is_optimal() {
-    assert_eq!(judged(&CROSSING, &crossing_plan(), CROSSING_ONE), Ok(Verdict::Optimal(5)));
-}
-
-#[test]
-fn no_plan_is_valid_for_two_agents_with_one_goal() {
-    let given = Given {
-        map: "type octile\nheight 1\nwidth 2\nmap\n..\n",
-        scen: "version 1\n0 a 2 1 0 0 1 0 1\n0 a 2 1 1 0 1 0 0\n",
-        k: 2,
-    };
-    let plan = "mapf-plan 1\nagents 2\nimpossible\nend\n";
-    assert_eq!(judged(&given, plan, SHARED_GOAL_ONE), Ok(Verdict::Impossible));
+fn an_agent_may_be_at_the_goal_of_another() {
+    let problem = problem_of("..", &[(0, 1), (1, 1)]);
+    assert_eq!(judged(&problem, SHARED_GOAL_PLAN, SHARED_GOAL_ONE), Ok(Verdict::Impossible));
 }
 
 #[test]
 fn plan_texts_are_refused() {
+    let problem = CROSSING.problem();
     for (replaced, lines, refusal) in [
-        (3..=3, "cost 4\n", CheckFault::C1(PlanTextFault::P1(3))),
-        (6..=6, "", CheckFault::C1(PlanTextFault::P2(6))),
-        (2..=2, "agents 201\n", CheckFault::C1(PlanTextFault::P3(2))),
         (6..=6, "end\nx", CheckFault::C1(PlanTextFault::P4(7))),
         (2..=5, "agents 1\nimpossible\n", CheckFault::C3),
         (3..=5, "limit ticks\n", CheckFault::C4),
         (3..=4, "cost 3\npath 0 1 1,1 2,1\n", CheckFault::C5(PlanFault::V1 { agent: 0 })),
         (3..=4, "cost 3\npath 0 1 0,1 2,1\n", CheckFault::C5(PlanFault::V2 { agent: 0, tick: 0 })),
         (3..=4, "cost 3\npath 0 1 0,1 1,1\n", CheckFault::C5(PlanFault::V3 { agent: 0 })),
-        (3..=4, "cost 4\npath 0 2 0,1 1,1 2,1\n", CheckFault::C5(PlanFault::V4 { i: 0, j: 1, tick: 1 })),
         (
             3..=5,
             "cost 7\npath 0 4 0,1 1,1 1,0 2,0 2,1\npath 1 3 1,0 1,0 1,1 1,2\n",
@@ -50,7 +37,7 @@ fn plan_texts_are_refused() {
         ),
     ] {
         let plan = with_lines(&crossing_plan(), replaced, lines);
-        assert_eq!(judged(&CROSSING, &plan, CROSSING_ONE), Err(refusal), "{plan}");
+        assert_eq!(judged(&problem, &plan, CROSSING_ONE), Err(refusal), "{plan}");
     }
 }
 

@@ -1,7 +1,5 @@
 //! Trees of constraints in certificates of versions 1 and 2.
-use super::judging::{
-    Change, Claimed, Refused, assert_calls, assert_claimed, assert_judged, assert_refusals, judged_within,
-};
+use super::judging::{Change, Refused, assert_calls, assert_claimed, assert_judged, assert_refusals, judged_within};
 use crate::crates::mapf_certificate::CertFault;
 use crate::crates::mapf_checker::{CheckFault, FromFault, Verdict};
 use crate::crates::mapf_model::devices::Pace;
@@ -44,89 +42,52 @@ fn nothing_is_pulled_after_a_refusal() {
 }
 
 #[test]
-fn certificates_that_end_wrongly_are_refused() {
-    let changes: [Change<_>; 2] = [
-        (11..=11, "", Err(CheckFault::C2(CertFault::K2(11)))),
-        (11..=11, "end\nx", Err(CheckFault::C2(CertFault::K4(12)))),
-    ];
-    assert_judged(CROSSING_ONE, &changes);
-}
-
-#[test]
-fn version_two_is_judged() {
-    let changes: [Change<_>; 14] = [
-        (1..=1, "mapf-cert 2\n", Ok(Verdict::Optimal(5))),
-        (8..=10, "leaf 0\n", Err(CheckFault::C8(8))),
-        (5..=7, "leaf 0\n", Err(CheckFault::C8(5))),
-        // The block on the split is judged without what the left child adds.
-        (4..=7, "vertex 0 1 1,1 1 1\nagent 0 1\nat 0,1 0 3\nleaf 0\n", Err(CheckFault::C7(6))),
-        // The split is judged before its blocks, and they before what stands below.
+fn a_split_is_judged_before_its_blocks_and_what_stands_below() {
+    let changes: [Change; 2] = [
         (4..=7, "vertex 0 0 1,1 1 1\nagent 0 1\nat 0,1 0 3\nclash 0 1\n", Err(CheckFault::C6(4))),
         // But an error of the lines of its blocks comes before it.
         (4..=7, "vertex 0 0 1,1 1 1\nagent 0 1\nat 0,1 0 03\nclash 0 1\n", Err(CheckFault::C2(CertFault::K1(6)))),
-        // What the left child's leaf says is no label at the right child.
-        (
-            4..=11,
-            "vertex 0 1 1,1 1 0\nleaf 1\nagent 0 1\nat 0,1 0 3\nleaf 1\nagent 0 1\nat 0,1 0 3\nend\n",
-            Err(CheckFault::C7(10)),
-        ),
-        // Further splits below: blocks on them hold for both their children.
-        (
-            4..=7,
-            "vertex 0 1 1,1 1 0\nvertex 0 1 0,0 5 1\nagent 0 1\nat 0,1 0 3\nleaf 0\nleaf 0\n",
-            Ok(Verdict::Optimal(5)),
-        ),
-        // But not where the part of the tree below is over.
-        (
-            4..=10,
-            "vertex 0 1 1,1 1 0\nvertex 0 1 0,0 5 1\nagent 0 1\nat 0,1 0 3\nleaf 0\nleaf 0\nleaf 0\n",
-            Err(CheckFault::C8(10)),
-        ),
-        // Neither of two blocks on one split does.
+    ];
+    assert_judged(CROSSING_CERT, &changes);
+}
+
+#[test]
+fn blocks_hold_as_far_as_their_part_of_the_tree() {
+    let changes: [Change; 4] = [
+        // Neither of two blocks on one split does where the part of the tree below is over.
         (
             4..=10,
             "vertex 0 1 1,1 1 0\nvertex 0 1 1,1 1 0\nleaf 1\nagent 0 1\nat 0,1 0 3\nvertex 0 1 0,0 5 2\n\
-         agent 0 1\nat 0,1 0 3\nagent 1 1\nat 1,0 0 3\nleaf 0\nleaf 0\nleaf 0\n",
+            agent 0 1\nat 0,1 0 3\nagent 1 1\nat 1,0 0 3\nleaf 0\nleaf 0\nleaf 0\n",
             Err(CheckFault::C8(16)),
         ),
         // A nearer block of the agent replaces all its entries, that of the start too.
         (
             4..=7,
             "vertex 0 1 1,1 1 0\nvertex 0 1 0,0 5 1\nagent 0 1\nat 0,1 0 3\nleaf 1\nagent 0 1\n\
-         at 1,1 1 2\nleaf 0\n",
+            at 1,1 1 2\nleaf 0\n",
             Err(CheckFault::C8(8)),
         ),
         (
             4..=7,
             "vertex 0 1 1,1 1 0\nvertex 0 1 0,0 5 1\nagent 0 1\nat 0,1 0 3\nvertex 0 1 0,0 6 1\n\
-         agent 0 1\nat 1,1 1 2\nleaf 0\nleaf 0\nleaf 0\n",
+            agent 0 1\nat 1,1 1 2\nleaf 0\nleaf 0\nleaf 0\n",
             Err(CheckFault::C8(11)),
         ),
         // Behind the part of the tree below it, the older one holds again.
         (
             4..=7,
             "vertex 0 1 1,1 1 0\nvertex 0 1 0,0 5 1\nagent 0 1\nat 0,1 0 3\nvertex 0 1 0,0 6 1\n\
-         agent 0 1\nat 1,1 1 2\nleaf 1\nagent 0 1\nat 0,1 0 3\nleaf 1\nagent 0 1\nat 0,1 0 3\nleaf 0\n",
+            agent 0 1\nat 1,1 1 2\nleaf 1\nagent 0 1\nat 0,1 0 3\nleaf 1\nagent 0 1\nat 0,1 0 3\nleaf 0\n",
             Ok(Verdict::Optimal(5)),
         ),
-        (4..=4, "vertex 0 1 1,1 1\n", Err(CheckFault::C2(CertFault::K1(4)))),
     ];
     assert_judged(CROSSING_CERT, &changes);
 }
 
-// What a search for two agents that have to change places knows after three splits.
+// Beside what a search for two agents that have to change places knows after three splits.
 #[test]
-fn bounds_are_judged() {
-    let cases: [Claimed; 9] = [
-        (2, "limit 3 bound 4", "bound 4", Ok(Verdict::Bound(4))),
-        (2, "limit 3 bound 3", "bound 3", Ok(Verdict::Bound(3))),
-        (2, "limit 3 bound 5", "bound 5", Err(CheckFault::C8(11))),
-        (1, "limit 3", "bound 4", Err(CheckFault::C4)),
-        (2, "limit 3 bound 4", "bound 3", Err(CheckFault::C4)),
-        (2, "limit 3 bound 4", "bound 5", Err(CheckFault::C4)),
-        (2, "limit 3 bound 4", "cost 4", Err(CheckFault::C4)),
-        (2, "limit 3 bound 4", "impossible", Err(CheckFault::C4)),
-        (2, "impossible", "bound 4", Err(CheckFault::C4)),
-    ];
+fn the_claim_has_to_be_that_of_the_limit() {
+    let cases = ["bound 5", "cost 4", "impossible"].map(|claims| (2, "limit 3 bound 4", claims, Err(CheckFault::C4)));
     assert_claimed(&EXCHANGE, EXCHANGE_STOPPED_CERT, &cases);
 }
