@@ -5,7 +5,7 @@ use crate::crates::mapf_checker::{CheckFault, FromFault, PlanFault, Verdict, che
 use crate::crates::mapf_model::Source;
 use crate::crates::mapf_model::devices::{FuseSource, Pace};
 use crate::made::{plan_of, problem_of};
-use crate::problems::{CROSSING, CROSSING_ONE, CROSSING_PLAN, SHARED_GOAL_ONE, SHARED_GOAL_PLAN, with_lines};
+use crate::problems::{CROSSING, CROSSING_ONE, SHARED_GOAL_ONE, SHARED_GOAL_PLAN, with_lines};
 use crate::rattle_std::alloc::Global;
 
 #[test]
