@@ -3,7 +3,7 @@
 use crate::crates::mapf_checker::check_plan;
 use crate::crates::mapf_model::{Cell, Path, Plan, Problem};
 use crate::crates::mapf_player::{Dispatch, Reply, dispatch_all, read_events};
-use crate::made::{Drawn, grid, list, path_of, problem_on};
+use crate::made::{Drawn, grid, list, path_of, plan_of, problem_of, problem_on};
 use crate::problems::{
     CROSSING, CROSSING_PLAN, CROSSING_TOLD, Given, NICHE, NICHE_PLAN, ROTATION, ROTATION_PLAN, event_text,
 };
@@ -130,16 +130,22 @@ impl Both {
     }
 }
 
+/// Three agents that go through one cell, the last first.
+fn queue() -> (Problem, Plan) {
+    let problem = problem_of("@.@ ... @.@ @.@ @.@", &[(3, 7), (1, 10), (5, 13)]);
+    (problem, plan_of(&[&[3, 3, 3, 4, 7], &[1, 1, 4, 7, 10], &[5, 4, 7, 10, 13]]))
+}
+
 // Each shorter list is a prefix of some of these.
 #[test]
 fn each_list_of_seven_events_gets_its_replies() {
-    for (given, plan) in [(CROSSING, CROSSING_PLAN), (ROTATION, ROTATION_PLAN)] {
-        let (problem, plan) = (given.problem(), given.plan(plan));
-        for list in 0..given.k.pow(7) {
+    let crossing = (CROSSING.problem(), CROSSING.plan(CROSSING_PLAN));
+    let rotation = (ROTATION.problem(), ROTATION.plan(ROTATION_PLAN));
+    for (problem, plan) in [crossing, rotation, queue()] {
+        let count = problem.agents().len() as u32;
+        for list in 0..count.pow(7) {
             let mut agents = Both::of(&problem, &plan);
-            for place in 0..7 {
-                agents.ask(list / given.k.pow(place) % given.k);
-            }
+            (0..7).for_each(|place| _ = agents.ask(list / count.pow(place) % count));
         }
     }
 }
@@ -167,13 +173,18 @@ fn path_along(stretches: &[Stretch]) -> Path {
     path_of(&cells.collect::<Vec<_>>())
 }
 
+/// The cells in which a path begins and ends.
+fn ends_of(path: &Path) -> (u32, u32) {
+    let cells = path.cells();
+    (cells[0].0, cells[cells.len() - 1].0)
+}
+
 /// An open map of 20 columns and 18 rows with a plan for 24 agents: sixteen cross it in the rows below the first, the
 /// others go as above.
 fn crowd() -> (Problem, Plan) {
     let rows = (1..17).map(|row| path_along(&[(row * 20, 1, 20)]));
     let plan = Plan::of(list(rows.chain(COLUMNS.map(path_along)))).expect("a plan");
-    let ends: Vec<(u32, u32)> =
-        plan.paths().iter().map(|path| (path.cells()[0].0, path.cells()[path.cells().len() - 1].0)).collect();
+    let ends: Vec<(u32, u32)> = plan.paths().iter().map(ends_of).collect();
     (problem_on(grid(20, 18, |_, _| true), &ends), plan)
 }
 
