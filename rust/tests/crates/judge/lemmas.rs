@@ -61,7 +61,7 @@ fn each_pull_may_fail() {
 // A part is read whole before it is judged.
 #[test]
 fn nothing_is_pulled_after_a_refusal() {
-    let refusals: [Refused; 10] = [
+    let refusals: [Refused; 11] = [
         (2..=2, "agents 3\n", 3, CheckFault::C3),
         (3..=3, "claim impossible\n", 3, CheckFault::C4),
         (6..=6, "two 0 0 0 0 0 1 -\n", 7, CheckFault::C10(6)),
@@ -72,6 +72,7 @@ fn nothing_is_pulled_after_a_refusal() {
         (8..=8, "vertex 0 0 1,1 1\n", 8, CheckFault::C6(8)),
         (8..=8, "clash 0 1\n", 8, CheckFault::C9(8)),
         (10..=10, "use 1 1\n", 10, CheckFault::C10(10)),
+        (11..=11, "end\nx", 12, CheckFault::C2(CertFault::K4(12))),
     ];
     assert_refusals(PAIR_CERT, &refusals);
 }

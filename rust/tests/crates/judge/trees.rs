@@ -23,7 +23,7 @@ fn each_pull_may_fail() {
 
 #[test]
 fn nothing_is_pulled_after_a_refusal() {
-    let refusals: [Refused; 13] = [
+    let refusals: [Refused; 14] = [
         (2..=2, "agents 3\n", 3, CheckFault::C3),
         (3..=3, "claim cost 4\n", 3, CheckFault::C4),
         (3..=3, "claim impossible\n", 3, CheckFault::C4),
@@ -37,6 +37,7 @@ fn nothing_is_pulled_after_a_refusal() {
         (8..=10, "leaf 0\n", 8, CheckFault::C8(8)),
         (4..=10, "clash 0 1\n", 4, CheckFault::C9(4)),
         (8..=10, "clash 0 1\n", 8, CheckFault::C9(8)),
+        (11..=11, "end\nx", 12, CheckFault::C2(CertFault::K4(12))),
     ];
     assert_refusals(CROSSING_ONE, &refusals);
 }
