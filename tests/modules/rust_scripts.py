@@ -1,4 +1,4 @@
-"""The other scripts of tests/ on the program and the library that cargo has built."""
+"""The other runners on the program and the library that cargo has built."""
 
 import re
 import subprocess
@@ -27,12 +27,12 @@ def problem_names():
 
 # The words behind each script that tries the program, those first that take longest.
 OF_PROGRAM = {
-    "run_memory": [], "run_failing_calls": ["--by-cargo"], "run_cases": [], "run_random": problem_names(),
-    "run_vectors": ["--program-alone"], "run_terminal": [], "run_follow": [], "run_json": [], "run_same_files": [],
+    "memory": [], "failing_calls": ["--by-cargo"], "cases": [], "random": problem_names(),
+    "vectors": ["--program-alone"], "terminal": [], "follow": [], "json": [], "same_files": [],
 }
 
 # The one that tries the library.
-OF_LIBRARY = "run_library"
+OF_LIBRARY = "library"
 
 
 def script(builds, name, words=()):
@@ -40,8 +40,9 @@ def script(builds, name, words=()):
 
     def attempt(tally):
         environment = {**builds.cargo.environment, "MAPF": str(builds.program), "MAPF_LIBRARY": str(builds.library)}
-        ended = subprocess.run([sys.executable, TESTS / name, *words], env=environment, stdin=subprocess.DEVNULL,
-                               stdout=subprocess.PIPE, stderr=subprocess.STDOUT, text=True, errors="replace")
+        ended = subprocess.run([sys.executable, TESTS / "runners" / name, *words], env=environment,
+                               stdin=subprocess.DEVNULL, stdout=subprocess.PIPE, stderr=subprocess.STDOUT, text=True,
+                               errors="replace")
         last = ended.stdout[ended.stdout.removesuffix("\n").rfind("\n") + 1:]
         counts = COUNTS.fullmatch(last)
         if counts:

@@ -11,7 +11,7 @@ import time
 from dataclasses import dataclass
 from pathlib import Path
 
-TESTS = Path(__file__).resolve().parent
+TESTS = Path(__file__).resolve().parents[1]
 
 # The proved program, and the program that the scripts try: what MAPF names, else the proved one.
 PROVED = TESTS.parent / "crates" / "mapf" / "out" / "mapf"
@@ -252,7 +252,7 @@ class Case:
 def built(name, folder):
     """Builds the C source of that name into this folder, to be preloaded."""
     library = Path(folder) / f"{name}.so"
-    source = TESTS / f"{name}.c"
+    source = TESTS / "c" / f"{name}.c"
     subprocess.run(["gcc", "-O2", "-Wall", "-Wextra", "-shared", "-fPIC", "-o", str(library), str(source)], check=True)
     return library
 

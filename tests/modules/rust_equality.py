@@ -104,7 +104,7 @@ def compare_cases(twins, tally):
 
 
 def compare_vectors(twins, tally):
-    """Each vector of run_vectors."""
+    """Each vector of runners/vectors."""
     vectors = kept_vectors()
 
     def answers(program, name, folder):

@@ -1,4 +1,4 @@
-// Trials of export/mapf_cert.hpp for tests/run_export. The first word of the call names the trial:
+// Trials of export/mapf_cert.hpp for tests/runners/export. The first word of the call names the trial:
 //
 //   refusals            tries each refusal, and each bound of a range; a line for each, with a tab and what went wrong
 //   crossing CERT       the lines that the head of the header shows
