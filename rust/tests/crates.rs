@@ -43,7 +43,11 @@ mod plans;
 mod player;
 #[path = "crates/prices.rs"]
 mod prices;
+#[path = "crates/problems.rs"]
+mod problems;
 mod refusing;
+#[path = "crates/running.rs"]
+mod running;
 #[path = "crates/runs.rs"]
 mod runs;
 #[path = "crates/search.rs"]
