@@ -1,11 +1,7 @@
-//! How the texts of the formats are read and written: maps, scenarios, plan texts, certificates of versions 1 and 2, the
-//! numbers of their lines, and the devices that they come from and go to.
-#[path = "formats/adapters.rs"]
-mod adapters;
+//! How the texts of the formats are read and written: maps, scenarios, plan texts and certificates of versions 1 and 2,
+//! and the numbers of their lines.
 #[path = "formats/certificates.rs"]
 mod certificates;
-#[path = "formats/changed.rs"]
-mod changed;
 #[path = "formats/fields.rs"]
 mod fields;
 #[path = "formats/maps.rs"]
@@ -16,5 +12,3 @@ mod plans;
 mod scenarios;
 #[path = "formats/streams.rs"]
 mod streams;
-#[path = "formats/texts.rs"]
-mod texts;

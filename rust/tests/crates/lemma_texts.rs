@@ -3,7 +3,8 @@ use crate::crates::mapf_certificate::CertFault::{self, K1, K2, K3, K4};
 use crate::crates::mapf_certificate::{LineBuffer, LinesFault};
 use crate::crates::mapf_fields::LineFault::{self, Range, Shape};
 use crate::crates::mapf_lemma_texts::{LemmaLine, LemmaLines, LinePlace, LineSizes, line_of};
-use crate::crates::mapf_model::BytesSource;
+use crate::crates::mapf_model::Source;
+use crate::crates::mapf_model::devices::{FuseSource, Pace};
 use crate::rattle_std::alloc::Global;
 
 /// Any line after the first three, on a grid of three columns and two rows, with four agents and two price lists.
@@ -153,14 +154,13 @@ fn place_after(lines: u64) -> LinePlace {
     }
 }
 
-/// The error that the lines of a text end with. None if they end with `end`, and nothing follows it.
-fn fault_of(text: &str) -> Option<LinesFault> {
-    let mut source = BytesSource::of(text.as_bytes());
+/// The error that the lines of a source end with. None if they end with `end`, and nothing follows it.
+fn fault_of(source: &mut impl Source) -> Option<LinesFault> {
     let mut lines = LemmaLines::over(LineBuffer::open(Global, 1000).expect("memory"));
     loop {
         let place = place_after(lines.count);
-        match lines.next(&mut source, &place) {
-            Ok(LemmaLine::End) => return lines.end(&mut source).err(),
+        match lines.next(source, &place) {
+            Ok(LemmaLine::End) => return lines.end(source).err(),
             Ok(_) => {}
             Err(fault) => return Some(fault),
         }
@@ -169,7 +169,10 @@ fn fault_of(text: &str) -> Option<LinesFault> {
 
 #[track_caller]
 fn assert_fault(text: &str, fault: Option<CertFault>) {
-    assert_eq!(fault_of(text), fault.map(LinesFault::Text), "{text}");
+    for pace in [Pace::ByteByByte, Pace::AllAtOnce] {
+        let given = fault_of(&mut FuseSource::of(text.as_bytes(), pace, None));
+        assert_eq!(given, fault.map(LinesFault::Text), "{text} {pace:?}");
+    }
 }
 
 #[test]
@@ -177,6 +180,7 @@ fn errors_of_the_first_lines_name_them() {
     for (text, fault) in [
         ("mapf-cert 2\n", K1(1)),
         ("mapf-cert 3\nagents 0\n", K3(2)),
+        ("mapf-cert 3\nagents 200\n", K2(3)),
         ("mapf-cert 3\nagents 201\n", K3(2)),
         ("mapf-cert 3\nprices 0\n", K1(2)),
         ("mapf-cert 3\nagents 4\nclaim bound 1999999801\n", K3(3)),

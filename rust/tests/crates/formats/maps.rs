@@ -2,6 +2,7 @@
 use crate::crates::mapf_model::Cell;
 use crate::crates::mapf_text::MapFault::{self, M1, M2, M3, M4, M5, M6, M7, M8, M9};
 use crate::crates::mapf_text::read_map;
+use crate::problems::CROSSING_MAP;
 use crate::rattle_std::alloc::Global;
 
 /// The error of a map.
@@ -9,9 +10,7 @@ fn fault_of(text: &str) -> Option<MapFault> {
     read_map(Global, text.as_bytes()).err()
 }
 
-const OPEN: &str = "type octile\nheight 3\nwidth 3\nmap\n...\n...\n...\n";
-
-/// The error of the first so many bytes of this map.
+/// The error of the first so many bytes of the crossing's map.
 fn front_fault(length: usize) -> Option<MapFault> {
     match length {
         0..=10 => Some(M1),
@@ -31,9 +30,9 @@ fn front_fault(length: usize) -> Option<MapFault> {
 
 #[test]
 fn each_front_of_a_map_ends_early() {
-    assert_eq!(OPEN.len(), 45);
-    for length in 0..=OPEN.len() {
-        assert_eq!(fault_of(&OPEN[..length]), front_fault(length), "{length} bytes");
+    assert_eq!(CROSSING_MAP.len(), 45);
+    for length in 0..=CROSSING_MAP.len() {
+        assert_eq!(fault_of(&CROSSING_MAP[..length]), front_fault(length), "{length} bytes");
     }
 }
 

@@ -3,6 +3,7 @@ use crate::crates::mapf_model::{Agent, Cell, Problem};
 use crate::crates::mapf_text::ScenFault::{self, S1, S2, S3, S4, S5, S6, S7};
 use crate::crates::mapf_text::read_scen;
 use crate::made::grid_of;
+use crate::problems::CROSSING_SCEN;
 use crate::rattle_std::alloc::Global;
 
 /// What a scenario of so many agents is on the grid of these rows.
@@ -12,9 +13,7 @@ fn read(rows: &str, text: &str, agents: u32) -> Result<Problem, ScenFault> {
 
 const OPEN: &str = "... ... ...";
 
-const TWO_AGENTS: &str = "version 1\n0\topen3.map\t3\t3\t0\t1\t2\t1\t2\n0\topen3.map\t3\t3\t1\t0\t1\t2\t2\n";
-
-/// The error of the first so many bytes of this scenario.
+/// The error of the first so many bytes of the crossing's scenario.
 fn front_fault(length: usize) -> Option<ScenFault> {
     match length {
         0..=8 => Some(S1),
@@ -29,15 +28,15 @@ fn front_fault(length: usize) -> Option<ScenFault> {
 
 #[test]
 fn each_front_of_a_scenario_ends_early() {
-    assert_eq!(TWO_AGENTS.len(), 62);
-    for length in 0..=TWO_AGENTS.len() {
-        assert_eq!(read(OPEN, &TWO_AGENTS[..length], 2).err(), front_fault(length), "{length} bytes");
+    assert_eq!(CROSSING_SCEN.len(), 62);
+    for length in 0..=CROSSING_SCEN.len() {
+        assert_eq!(read(OPEN, &CROSSING_SCEN[..length], 2).err(), front_fault(length), "{length} bytes");
     }
 }
 
 #[test]
 fn agents_are_read() {
-    let problem = read(OPEN, TWO_AGENTS, 2).expect("a problem");
+    let problem = read(OPEN, CROSSING_SCEN, 2).expect("a problem");
     let agent = |start, goal| Agent { start: Cell(start), goal: Cell(goal) };
     assert_eq!(problem.agents(), [agent(3, 5), agent(1, 7)]);
     assert_eq!(problem.grid().width(), 3);

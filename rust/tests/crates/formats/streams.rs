@@ -1,11 +1,10 @@
 //! Certificates that come from a source item by item: in pieces, under a limit, and from sources that fail.
-use super::changed::line_after;
-use super::texts::{CROSSING, CROSSING_TWO};
 use crate::crates::mapf_certificate::CertFault::{K1, K4};
+use crate::crates::mapf_certificate::CertLines;
 use crate::crates::mapf_certificate::LinesFault::{self, Device, Text, TooLong};
-use crate::crates::mapf_certificate::{CertLines, Version};
 use crate::crates::mapf_model::devices::{EndlessSource, FuseSource, Pace};
 use crate::crates::mapf_model::{Claim, ReadSource, Source};
+use crate::problems::{CROSSING_ONE, line_cut};
 use crate::rattle_std::alloc::Global;
 use std::io::{self, Read};
 
@@ -22,20 +21,22 @@ fn reader(limit: u64) -> CertLines {
     CertLines::open(Global, 3, 3, limit).expect("memory")
 }
 
-/// What comes of a source under a limit.
+/// What comes of a source under a limit. After the end the same comes again.
 fn run(source: &mut impl Source, limit: u64) -> Came {
     let mut lines = reader(limit);
     if let Err(fault) = lines.header(source) {
         return (0, 0, Some(fault));
     }
     let mut count = 0;
-    loop {
+    let end = loop {
         match lines.next_item(source) {
             Ok(Some(_)) => count += 1,
-            Ok(None) => return (count, lines.line(), None),
-            Err(fault) => return (count, lines.line(), Some(fault)),
+            Ok(None) => break None,
+            Err(fault) => break Some(fault),
         }
-    }
+    };
+    assert_eq!(lines.next_item(source).err(), end, "after the end");
+    (count, lines.line(), end)
 }
 
 /// What comes of bytes from a source that fails after so many calls, or never.
@@ -49,30 +50,8 @@ fn with_byte(bytes: &[u8], place: usize) -> Vec<u8> {
 }
 
 #[test]
-fn the_header_and_the_items_are_given() {
-    let wanted = [
-        (4, "Vertex { i: 0, j: 1, cell: Cell(4), tick: 1, blocks: [] }"),
-        (5, "Leaf([Block { agent: 0, entries: [Entry { cell: Cell(3), tick: 0, label: Ticks(3) }] }])"),
-        (8, "Leaf([Block { agent: 1, entries: [Entry { cell: Cell(1), tick: 0, label: Ticks(3) }] }])"),
-    ];
-    for (text, version) in [(CROSSING, Version::One), (CROSSING_TWO, Version::Two)] {
-        for pace in PACES {
-            let mut source = FuseSource::of(text.as_bytes(), pace, None);
-            let mut lines = reader(113);
-            assert_eq!(lines.header(&mut source), Ok(HEADER), "{version:?}, {pace:?}");
-            assert_eq!(lines.version(), version, "{pace:?}");
-            for (line, item) in wanted {
-                let given = lines.next_item(&mut source).expect(item).expect(item);
-                assert_eq!((lines.line(), format!("{given:?}").as_str()), (line, item), "{version:?}, {pace:?}");
-            }
-            assert!(matches!(lines.next_item(&mut source), Ok(None)), "{version:?}, {pace:?}");
-        }
-    }
-}
-
-#[test]
 fn the_text_may_come_in_any_two_pieces() {
-    let bytes = CROSSING.as_bytes();
+    let bytes = CROSSING_ONE.as_bytes();
     for first in 1..bytes.len() {
         let mut source = ReadSource::of(bytes[..first].chain(&bytes[first..]));
         assert_eq!(run(&mut source, 111), (3, 8, None), "{first}");
@@ -81,7 +60,7 @@ fn the_text_may_come_in_any_two_pieces() {
 
 #[test]
 fn a_text_may_be_as_long_as_the_limit() {
-    let bytes = CROSSING.as_bytes();
+    let bytes = CROSSING_ONE.as_bytes();
     let longer = with_byte(bytes, bytes.len());
     assert_eq!(bytes.len(), 111);
     for pace in PACES {
@@ -117,9 +96,9 @@ fn items_before(line: u64) -> (u64, u64) {
 // Each byte is a call, and each call fails once.
 #[test]
 fn each_call_of_the_source_may_fail() {
-    let bytes = CROSSING.as_bytes();
+    let bytes = CROSSING_ONE.as_bytes();
     for calls in 0..bytes.len() {
-        let line = line_after(&bytes[..calls]);
+        let line = line_cut(&bytes[..calls]);
         let header = if line < 4 { Err(Device) } else { Ok(HEADER) };
         assert_eq!(header_of(bytes, calls as u64), header, "{calls} calls");
         let (count, last) = items_before(line);
@@ -137,21 +116,27 @@ fn the_end_of_the_bytes_is_a_call_of_its_own() {
         (Pace::AllAtOnce, 1, (3, 8, Some(Device))),
         (Pace::AllAtOnce, 2, (3, 8, None)),
     ] {
-        assert_eq!(run_fuse(CROSSING.as_bytes(), pace, Some(calls), 111), came, "{calls} calls, {pace:?}");
+        assert_eq!(run_fuse(CROSSING_ONE.as_bytes(), pace, Some(calls), 111), came, "{calls} calls, {pace:?}");
     }
 }
 
 // One byte more makes any line wrong. That is told before more is read, and not before the line ends.
 #[test]
 fn nothing_is_read_after_an_error() {
-    let bytes = CROSSING.as_bytes();
+    let bytes = CROSSING_ONE.as_bytes();
     for end in (0..bytes.len()).filter(|&place| bytes[place] == b'\n') {
         let longer = with_byte(bytes, end);
-        let fault = |pace, calls| run_fuse(&longer, pace, Some(calls), 999).2;
-        let wrong = Some(Text(K1(line_after(&bytes[..end]))));
-        assert_eq!(fault(Pace::ByteByByte, end as u64 + 2), wrong, "{end}");
-        assert_eq!(fault(Pace::ByteByByte, end as u64 + 1), Some(Device), "{end}");
-        assert_eq!(fault(Pace::AllAtOnce, 1), wrong, "{end}");
+        let wrong = Text(K1(line_cut(&bytes[..end])));
+        let whole_line = end as u64 + 2;
+        for (pace, calls, fault) in [
+            (Pace::ByteByByte, whole_line, wrong),
+            (Pace::ByteByByte, whole_line - 1, Device),
+            (Pace::AllAtOnce, 1, wrong),
+        ] {
+            let mut source = FuseSource::of(&longer, pace, Some(calls));
+            let (_, _, given) = run(&mut source, 999);
+            assert_eq!((given, source.failed()), (Some(fault), fault == Device), "{calls} calls, {pace:?}");
+        }
     }
 }
 
