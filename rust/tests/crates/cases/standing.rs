@@ -64,13 +64,14 @@ fn a_constraint_is_met_by_one_that_asks_for_as_much() {
 
 #[test]
 fn all_others_keep_clear_of_a_cell() {
-    let mut standing =
-        standing_of(&[others(0, 5, 7), others(0, 5, 9), others(1, 5, 3), others(2, 5, 1), others(2, 5, 0)]);
     const NEVER: Tick = 99;
+    let added = [(0, 7), (0, 9), (1, 3), (3, 5), (2, 1), (2, 0)].map(|(agent, tick)| others(agent, 5, tick));
+    let mut standing = standing_of(&added);
     // For each count of additions the first tick from which agents 0, 1, 2 and 3 are clear.
     for (count, firsts) in [
-        (5, [0, 0, 3, 0]),
-        (4, [1, 1, 3, 1]),
+        (6, [0, 0, 3, 0]),
+        (5, [1, 1, 3, 1]),
+        (4, [3, 5, 3, 3]),
         (3, [3, 7, 3, 3]),
         (2, [NEVER, 7, 7, 7]),
         (1, [NEVER, 7, 7, 7]),
@@ -80,10 +81,10 @@ fn all_others_keep_clear_of_a_cell() {
         assert_eq!(standing.count(), count);
         for (agent, first) in (0..).zip(firsts) {
             for tick in 0..12 {
-                let met =
-                    [clear(5, tick), not_at(5, tick), clear(6, tick)].map(|needed| standing.meets(agent, &needed));
+                let asked = [clear(5, tick), not_at(5, tick), clear(6, tick), clear(0, tick)];
+                let met = asked.map(|needed| standing.meets(agent, &needed));
                 let is_clear = first <= tick;
-                assert_eq!(met, [is_clear, is_clear, false], "{count} stand, agent {agent}, tick {tick}");
+                assert_eq!(met, [is_clear, is_clear, false, false], "{count} stand, agent {agent}, tick {tick}");
             }
         }
     }

@@ -1,5 +1,5 @@
 //! Small trees of cases.
-use super::{clear, least, most, not_at, of};
+use super::{clear, least, most, not_at, not_move, of};
 use crate::crates::mapf_cases::{CaseFault, CaseProgress, ScopeAgents, SplitFault, TreeProblem};
 use crate::crates::mapf_lemmas::{Amount, Split, Statement};
 use crate::crates::mapf_model::Cell;
@@ -57,28 +57,36 @@ fn judge(progress: &mut CaseProgress, tree: &TreeProblem, node: Node) -> Result<
 }
 
 #[test]
-fn a_tree_is_over_after_its_last_node() {
+fn each_child_of_a_split_has_its_constraints() {
     let tree =
         TreeProblem { problem: &problem_of("... ... ...", &ENDS), known: &[statement([1, 0], None)], agents: &scope() };
-    let asked = [(0, least(3)), (2, clear(6, 5)), (1, not_at(4, 2)), (1, least(5)), (0, most(4))];
-    let mut progress = under_least(3);
-    // For each node which of these constraints are met there.
-    for (place, (node, wanted)) in [
-        (Node::Branch(Split::Cost { i: 1, ticks: 4 }), [true, false, false, false, false]),
-        (vertex(0, 1, 4), [true, true, false, false, false]),
-        (Node::Leaf, [true, true, false, false, false]),
-        (Node::Clash { i: 1, j: 2 }, [true, true, true, false, false]),
-        (costs(0, 1, 5, 0), [true, false, false, true, false]),
-        (Node::Leaf, [true, false, false, true, true]),
-        (Node::Leaf, [true, false, false, true, false]),
-    ]
-    .into_iter()
-    .enumerate()
-    {
-        let met = asked.map(|(agent, needed)| progress.standing().meets(agent, &needed));
-        assert_eq!(met, wanted, "node {place}");
-        assert!(!progress.is_over, "node {place}");
-        assert_eq!(judge(&mut progress, &tree, node), Ok(()), "node {place}");
+    let root = [of(0, least(3)), of(2, most(7))];
+    let cost = [of(1, most(3)), of(2, clear(6, 3))];
+    let costs_more = [of(1, least(4))];
+    let vertex_sides = [of(0, not_at(4, 2)), of(1, not_at(4, 2))];
+    let costs_left = [of(1, least(5)), of(0, most(4)), of(1, clear(8, 4)), of(2, clear(8, 4))];
+    let swap_sides = [of(0, not_move(0, 1, 2)), of(1, not_move(1, 0, 2))];
+    let costs_right = [of(0, least(5))];
+    let asked = [&root[..], &cost, &costs_more, &vertex_sides, &costs_left, &swap_sides, &costs_right].concat();
+    // The nodes in pre-order, each with what stands there besides the constraints of the root.
+    let nodes = [
+        (Node::Branch(Split::Cost { i: 1, ticks: 3 }), vec![]),
+        (vertex(0, 1, 4), cost.to_vec()),
+        (Node::Leaf, [&cost[..], &vertex_sides[..1]].concat()),
+        (Node::Clash { i: 1, j: 2 }, [&cost[..], &vertex_sides[1..]].concat()),
+        (costs(0, 1, 5, 0), costs_more.to_vec()),
+        (swap(0, 1), [&costs_more[..], &costs_left].concat()),
+        (Node::Leaf, [&costs_more[..], &costs_left, &swap_sides[..1]].concat()),
+        (Node::Leaf, [&costs_more[..], &costs_left, &swap_sides[1..]].concat()),
+        (Node::Leaf, [&costs_more[..], &costs_right].concat()),
+    ];
+    let mut progress = CaseProgress::new(Global, &root).expect("memory");
+    for (node, wanted) in nodes {
+        let mut met = asked.clone();
+        met.retain(|own| progress.standing().meets(own.agent, &own.constraint));
+        assert_eq!(met, [&root[..], &wanted].concat(), "{node:?}");
+        assert!(!progress.is_over, "{node:?}");
+        assert_eq!(judge(&mut progress, &tree, node), Ok(()), "{node:?}");
     }
     assert!(progress.is_over);
 }
