@@ -11,6 +11,8 @@ mod bars;
 mod conflicts;
 #[path = "paths/distances.rs"]
 mod distances;
+#[path = "paths/drawn.rs"]
+mod drawn;
 #[path = "paths/searches.rs"]
 mod searches;
 

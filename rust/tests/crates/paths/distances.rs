@@ -1,8 +1,8 @@
 //! The steps from a cell, the distances to a goal, and the path that is read off them.
 use super::{Printed, distances_to, numbers};
 use crate::crates::mapf_distance::{Distances, LazyTables, goal_tables, shortest_path, start_distances};
-use crate::crates::mapf_model::{Cell, OutOfMemory};
-use crate::made::{grid_of, problem_of};
+use crate::crates::mapf_model::{Agent, Cell, Grid, OutOfMemory};
+use crate::made::{Shape, drawn, grid_of, problem_of};
 use crate::memory::assert_refusals_told;
 use crate::rattle_std::alloc::Global;
 use crate::refusing::{Refused, refusing};
@@ -124,15 +124,24 @@ fn the_distances_of_starts_are_those_of_the_table() {
     }
 }
 
+/// The distance of a start and the shortest path from it, which are found without a table, are those of the table.
+fn assert_agrees_with_table(grid: &Grid, Agent { start, goal }: Agent, distance: Option<u32>, case: &str) {
+    let table = Distances::of(Global, grid, goal).expect("memory");
+    assert_eq!(distance, table.get(start), "{case}");
+    let path = shortest_path(Global, grid, start, goal).expect("memory");
+    let wanted = distance.map(|_| table.descend(Global, start).expect("memory"));
+    assert_eq!(path.as_ref().map(numbers), wanted.as_ref().map(numbers), "{case}");
+}
+
 #[test]
-fn a_shortest_path_is_the_one_that_the_table_leads_down() {
-    let maze = grid_of(MAZE);
-    for goal in free_cells() {
-        let table = distances_to(MAZE, goal);
-        for start in free_cells() {
-            let path = shortest_path(Global, &maze, Cell(start), Cell(goal)).expect("memory");
-            let wanted = table.get(Cell(start)).map(|_| table.descend(Global, Cell(start)).expect("memory"));
-            assert_eq!(path.as_ref().map(numbers), wanted.as_ref().map(numbers), "{start} to {goal}");
+fn distances_and_paths_of_drawn_problems_are_those_of_the_tables() {
+    for (seed, blocked) in (0..100).flat_map(|seed| [10, 30, 45].map(|blocked| (seed, blocked))) {
+        let shape = Shape { width: 9, height: 8, blocked, agents: 10 };
+        let problem = drawn(shape, seed).expect("free cells");
+        let distances = start_distances(Global, &problem).expect("memory");
+        for (agent, distance) in problem.agents().iter().zip(&distances) {
+            let case = format!("{agent:?} of seed {seed}, {blocked} of a hundred blocked");
+            assert_agrees_with_table(problem.grid(), *agent, *distance, &case);
         }
     }
 }

@@ -1,12 +1,12 @@
 //! The search of one agent: worked cases with the labels of known certificates.
-use super::{Printed, distances_to, no_cell, no_move, numbers};
+use super::{Printed, no_cell, no_move, numbers};
 use crate::crates::mapf_constraints::{BarTable, ListBars, TickBars};
 use crate::crates::mapf_distance::Distances;
-use crate::crates::mapf_model::{Agent, Bar, Cell, Entry, Grid, Label, OutOfMemory, Path};
+use crate::crates::mapf_model::{Agent, Bar, Cell, Entry, Grid, Label, OutOfMemory, Path, Problem};
 use crate::crates::mapf_spacetime::{
     Found, Labels, SearchTask, StateLabels, Workspace, label_at, search, search_expecting,
 };
-use crate::made::{grid, grid_of};
+use crate::made::{grid, problem_of, problem_on};
 use crate::memory::assert_refusals_told;
 use crate::rattle_std::alloc::Global;
 use crate::refusing::{Refused, refusing};
@@ -33,6 +33,9 @@ const DEAD: &[Case] = &[
 ];
 
 const AROUND: &[Case] = &[
+    Case(SQUARE, (0, 8), &[], "path 0 1 2 5 8;"),
+    Case(SQUARE, (8, 0), &[], "path 8 5 2 1 0;"),
+    Case(".. ..", (0, 3), &[no_cell(3, 2)], "path 0 0 1 3; 0@0=3 1@1=2 2@1=2"),
     Case(SQUARE, (0, 8), &[no_cell(2, 2)], "path 0 1 4 5 8;"),
     Case(BAY, (0, 2), &[no_cell(0, 1), no_cell(0, 2), no_cell(1, 2), no_cell(2, 2)], "path 0 1 4 1 2; 0@0=4 1@1=3"),
 ];
@@ -60,41 +63,54 @@ fn all_cases() -> impl Iterator<Item = &'static Case<'static>> {
     [WAITING, DEAD, AROUND, AT_ITS_GOAL, PASSING, CROSSING].into_iter().flatten()
 }
 
-/// What a search is told.
-struct Given<B> {
-    grid: Grid,
-    distances: Distances,
-    bars: B,
-    agent: Agent,
+/// A problem of one agent, with the distances to its goal and its constraints in either table.
+pub struct Task {
+    problem: Problem,
+    pub distances: Distances,
+    pub list: ListBars,
+    pub index: TickBars,
 }
 
-impl<B: BarTable> Given<B> {
-    fn of(grid: Grid, (start, goal): (u32, u32), bars: &[Bar]) -> Given<B> {
-        let distances = Distances::of(Global, &grid, Cell(goal)).expect("memory");
-        let mut table = B::empty(Global);
-        for &bar in bars {
-            table.add(bar).expect("memory");
-        }
-        Given { grid, distances, bars: table, agent: Agent { start: Cell(start), goal: Cell(goal) } }
+impl Task {
+    pub fn of(problem: Problem, bars: &[Bar]) -> Task {
+        let distances = Distances::of(Global, problem.grid(), problem.agents()[0].goal).expect("memory");
+        Task { problem, distances, list: table_of(bars), index: table_of(bars) }
     }
 
-    fn of_case(&Case(rows, ends, bars, _): &Case) -> Given<B> {
-        Given::of(grid_of(rows), ends, bars)
+    fn of_case(&Case(rows, ends, bars, _): &Case) -> Task {
+        Task::of(problem_of(rows, &[ends]), bars)
     }
 
-    fn search(&self) -> Result<Found, OutOfMemory> {
-        search(Global, &self.grid, &self.distances, &self.bars, self.agent)
+    pub fn grid(&self) -> &Grid {
+        self.problem.grid()
+    }
+
+    pub fn agent(&self) -> Agent {
+        self.problem.agents()[0]
+    }
+
+    /// Searches under the constraints of one of the tables.
+    pub fn search<B: BarTable>(&self, bars: &B) -> Result<Found, OutOfMemory> {
+        search(Global, self.grid(), &self.distances, bars, self.agent())
     }
 
     /// Searches in the memory of earlier searches, with a cost that is expected.
-    fn search_in(&self, workspace: &mut Workspace, expected: u32) -> Result<Found<StateLabels>, OutOfMemory> {
-        let task = SearchTask::of(&self.grid, &self.distances, &self.bars, self.agent);
+    pub fn search_in(&self, workspace: &mut Workspace, expected: u32) -> Result<Found<StateLabels>, OutOfMemory> {
+        let task = SearchTask::of(self.grid(), &self.distances, &self.index, self.agent());
         search_expecting(Global, workspace, &task, expected)
     }
 }
 
+fn table_of<B: BarTable>(bars: &[Bar]) -> B {
+    let mut table = B::empty(Global);
+    for &bar in bars {
+        table.add(bar).expect("memory");
+    }
+    table
+}
+
 /// What is found, as a case has it.
-fn text_of(path: Option<&Path>, entries: &[Entry]) -> String {
+pub fn text_of(path: Option<&Path>, entries: &[Entry]) -> String {
     let head = path.map_or("dead".to_owned(), |path| {
         numbers(path).iter().fold("path".to_owned(), |text, number| format!("{text} {number}"))
     });
@@ -107,7 +123,7 @@ fn text_of(path: Option<&Path>, entries: &[Entry]) -> String {
     })
 }
 
-fn text_of_found(found: Result<Found, OutOfMemory>) -> String {
+pub fn text_of_found(found: Result<Found, OutOfMemory>) -> String {
     match found.expect("memory") {
         Found::Arrives { path, labels } => text_of(Some(&path), labels.entries()),
         Found::Dead { labels } => text_of(None, labels.entries()),
@@ -115,7 +131,7 @@ fn text_of_found(found: Result<Found, OutOfMemory>) -> String {
 }
 
 /// The same of a search that keeps its states.
-fn text_of_states(found: Result<Found<StateLabels>, OutOfMemory>) -> String {
+pub fn text_of_states(found: Result<Found<StateLabels>, OutOfMemory>) -> String {
     let (path, labels) = match found.expect("memory") {
         Found::Arrives { path, labels } => (Some(path), labels),
         Found::Dead { labels } => (None, labels),
@@ -128,10 +144,10 @@ fn text_of_states(found: Result<Found<StateLabels>, OutOfMemory>) -> String {
 fn assert_found(cases: &[Case]) {
     for case in cases {
         let &Case(rows, _, bars, wanted) = case;
-        let by_list = text_of_found(Given::<ListBars>::of_case(case).search());
-        assert_eq!(by_list, wanted, "{rows} {bars:?}");
-        let by_index = text_of_found(Given::<TickBars>::of_case(case).search());
-        assert_eq!(by_index, wanted, "{rows} {bars:?}");
+        let task = Task::of_case(case);
+        for found in [task.search(&task.list), task.search(&task.index)] {
+            assert_eq!(text_of_found(found), wanted, "{rows} {bars:?}");
+        }
     }
 }
 
@@ -146,7 +162,7 @@ fn an_agent_is_dead_where_its_only_cell_or_its_start_is_barred_or_no_steps_lead(
 }
 
 #[test]
-fn an_agent_takes_another_shortest_path_and_steps_aside_in_a_corridor() {
+fn an_agent_takes_the_least_of_the_cheapest_paths_and_steps_aside_in_a_corridor() {
     assert_found(AROUND);
 }
 
@@ -162,8 +178,8 @@ fn labels_are_those_of_known_certificates() {
 }
 
 /// The path that is found, with its labels.
-fn arrival<B: BarTable>(given: &Given<B>) -> (Path, Labels) {
-    match given.search().expect("memory") {
+fn arrival(task: &Task) -> (Path, Labels) {
+    match task.search(&task.index).expect("memory") {
         Found::Arrives { path, labels } => (path, labels),
         Found::Dead { .. } => panic!("dead"),
     }
@@ -171,19 +187,17 @@ fn arrival<B: BarTable>(given: &Given<B>) -> (Path, Labels) {
 
 #[test]
 fn a_late_bar_elsewhere_costs_nothing() {
-    let given = Given::<TickBars>::of(grid(64, 64, |_, _| true), (0, 63), &[no_cell(4032, 900_000)]);
-    let (path, labels) = arrival(&given);
+    let task = Task::of(problem_on(grid(64, 64, |_, _| true), &[(0, 63)]), &[no_cell(4032, 900_000)]);
+    let (path, labels) = arrival(&task);
     assert!(labels.is_empty());
     assert_eq!(numbers(&path), (0..64).collect::<Vec<_>>());
 }
 
 #[test]
 fn a_label_is_the_entry_else_the_distance() {
-    let rows = "...@.";
-    let given = Given::<ListBars>::of(grid_of(rows), (0, 2), &[no_cell(1, 1)]);
-    let (_, labels) = arrival(&given);
-    let distances = distances_to(rows, 2);
-    let label = |cell, tick| label_at(&labels, &distances, Cell(cell), tick);
+    let task = Task::of(problem_of("...@.", &[(0, 2)]), &[no_cell(1, 1)]);
+    let (_, labels) = arrival(&task);
+    let label = |cell, tick| label_at(&labels, &task.distances, Cell(cell), tick);
     assert_eq!(label(0, 0), Label::Ticks(3));
     assert_eq!(label(0, 1), Label::Ticks(2));
     assert_eq!(label(4, 0), Label::Never);
@@ -194,7 +208,7 @@ fn a_workspace_serves_one_search_after_the_other() {
     let mut workspace = Workspace::new(Global);
     for round in 0..300 {
         for case in all_cases() {
-            let found = text_of_states(Given::<TickBars>::of_case(case).search_in(&mut workspace, 0));
+            let found = text_of_states(Task::of_case(case).search_in(&mut workspace, 0));
             assert_eq!(found, case.3, "{} in round {round}", case.0);
         }
     }
@@ -205,37 +219,35 @@ fn the_expected_cost_changes_no_answer() {
     let mut workspace = Workspace::new(Global);
     for case in all_cases() {
         for expected in (0..=8).chain([20, 100]) {
-            let found = text_of_states(Given::<TickBars>::of_case(case).search_in(&mut workspace, expected));
+            let found = text_of_states(Task::of_case(case).search_in(&mut workspace, expected));
             assert_eq!(found, case.3, "{} {expected}", case.0);
         }
     }
 }
 
-/// The cases whose answers take memory: a path, or labels.
-fn cases_with_answers() -> impl Iterator<Item = &'static Case<'static>> {
-    all_cases().filter(|case| case.3 != "dead;")
+/// The tasks of the cases whose answers take memory, for a path or for labels, with the answers.
+fn tasks_with_answers() -> impl Iterator<Item = (Task, &'static str)> {
+    all_cases().filter(|case| case.3 != "dead;").map(|case| (Task::of_case(case), case.3))
 }
 
 #[test]
 fn a_search_tells_that_it_was_refused_memory() {
-    for case in cases_with_answers() {
-        let (list, index) = (Given::<ListBars>::of_case(case), Given::<TickBars>::of_case(case));
-        assert_refusals_told(|| list.search().map(Printed), |OutOfMemory| true);
-        assert_refusals_told(|| index.search().map(Printed), |OutOfMemory| true);
-        let expecting = || index.search_in(&mut Workspace::new(Global), 20).map(Printed);
+    for (task, _) in tasks_with_answers() {
+        assert_refusals_told(|| task.search(&task.list).map(Printed), |OutOfMemory| true);
+        assert_refusals_told(|| task.search(&task.index).map(Printed), |OutOfMemory| true);
+        let expecting = || task.search_in(&mut Workspace::new(Global), 20).map(Printed);
         assert_refusals_told(expecting, |OutOfMemory| true);
     }
 }
 
 #[test]
 fn a_workspace_serves_after_a_search_that_was_refused_memory() {
-    for case in cases_with_answers() {
-        let given = Given::<TickBars>::of_case(case);
+    for (task, wanted) in tasks_with_answers() {
         for granted in 0.. {
             let mut workspace = Workspace::new(Global);
-            let (_, count) = refusing(Refused::One, granted, || given.search_in(&mut workspace, 0));
-            let found = text_of_states(given.search_in(&mut workspace, 0));
-            assert_eq!(found, case.3, "{} behind {granted} requests", case.0);
+            let (_, count) = refusing(Refused::One, granted, || task.search_in(&mut workspace, 0));
+            let found = text_of_states(task.search_in(&mut workspace, 0));
+            assert_eq!(found, wanted, "behind {granted} requests");
             if count == 0 {
                 break;
             }
