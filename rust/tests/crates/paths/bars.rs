@@ -28,24 +28,32 @@ fn has<B: BarTable>(table: &B, bar: Bar) -> bool {
     }
 }
 
+/// The table has just these constraints of a tick on a cell, on a move from it, and on a move to it.
+#[track_caller]
+fn assert_holds_at<B: BarTable>(table: &B, bars: &[Bar], cell: u32, tick: Tick) {
+    for bar in [no_cell(cell, tick), no_move(cell, cell + 1, tick), no_move(cell + 1, cell, tick)] {
+        assert_eq!(has(table, bar), bars.contains(&bar), "{bar:?}");
+    }
+    let is_open = !bars.iter().any(|bar| arrival_of(bar) == (Cell(cell), tick));
+    assert!(is_open || table.may_bar_arrival(Cell(cell), tick), "{cell} at {tick}");
+    let is_free = !bars.iter().any(|bar| tick_of(bar) == tick);
+    assert!(is_free || table.may_bar_at(tick), "at {tick}");
+}
+
+/// The greatest tick of a constraint on a cell.
+fn last_on(bars: &[Bar], cell: Cell) -> Option<Tick> {
+    let on_cell = |bar: &&Bar| matches!(bar, Bar::Cell { cell: on, .. } if *on == cell);
+    bars.iter().filter(on_cell).map(tick_of).max()
+}
+
 /// The table answers as these constraints want it, of 32 cells and 52 ticks. This takes no memory.
 #[track_caller]
 fn assert_holds<B: BarTable>(table: &B, bars: &[Bar]) {
-    let at = |cell, tick| [no_cell(cell, tick), no_move(cell, cell + 1, tick), no_move(cell + 1, cell, tick)];
     for (cell, tick) in (0..32).flat_map(|cell| (0..52).map(move |tick| (cell, tick))) {
-        for bar in at(cell, tick) {
-            assert_eq!(has(table, bar), bars.contains(&bar), "{bar:?}");
-        }
-        let is_free = || !bars.iter().any(|bar| arrival_of(bar) == (Cell(cell), tick));
-        assert!(table.may_bar_arrival(Cell(cell), tick) || is_free(), "{cell} at {tick}");
+        assert_holds_at(table, bars, cell, tick);
     }
-    for tick in 0..52 {
-        assert!(table.may_bar_at(tick) || !bars.iter().any(|bar| tick_of(bar) == tick), "at {tick}");
-    }
-    for cell in (0..32).map(Cell) {
-        let is_on = |bar: &&Bar| matches!(bar, Bar::Cell { cell: on, .. } if *on == cell);
-        assert_eq!(table.last_on(cell), bars.iter().filter(is_on).map(tick_of).max(), "{cell:?}");
-    }
+    let is_last = |&cell: &Cell| table.last_on(cell) == last_on(bars, cell);
+    assert_eq!((0..32).map(Cell).find(|cell| !is_last(cell)), None);
     assert_eq!(table.horizon(), bars.iter().map(|bar| tick_of(bar) + 1).max().unwrap_or(0));
 }
 
