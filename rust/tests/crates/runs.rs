@@ -1,5 +1,5 @@
-//! What the runs of the crate `mapf_app` answer over texts in memory. The cases of `tests/cases` show the bytes that they
-//! write.
+//! What the runs of the crate `mapf_app` answer over texts in memory. The cases of `tests/cases` show the bytes that
+//! they write.
 #[path = "runs/faults.rs"]
 mod faults;
 #[path = "runs/following.rs"]

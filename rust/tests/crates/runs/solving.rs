@@ -69,8 +69,8 @@ fn the_second_search_answers_as_plain_search_does() {
     }
 }
 
-// The first plan of two agents is optimal, and their joint states show it. Or the two have one start, or can't pass each
-// other.
+// The first plan of two agents is optimal, and their joint states show it. Or the two have one start, or can't pass
+// each other.
 #[test]
 fn the_second_search_answers_for_two_agents_without_a_split() {
     for (given, kind) in [
