@@ -17,8 +17,6 @@ mod cases;
 mod checks;
 #[path = "crates/ends.rs"]
 mod ends;
-#[path = "crates/explain.rs"]
-mod explain;
 #[path = "crates/formats.rs"]
 mod formats;
 #[path = "crates/groups.rs"]
