@@ -72,16 +72,20 @@ fn check_broken(plan: &str, pace: Pace, calls: u64) -> (Result<Verdict, Fault>, 
 
 #[test]
 fn each_call_of_the_source_may_fail() {
+    let (broken, whole) = ((Err(Fault::F4(Input::Cert)), true), (Ok(Verdict::Optimal(5)), false));
     for (pace, needed) in [(Pace::AllAtOnce, 2), (Pace::ByteByByte, CROSSING_ONE.len() as u64 + 1)] {
-        for calls in 0..needed {
-            let broken = (Err(Fault::F4(Input::Cert)), true);
-            assert_eq!(check_broken(CROSSING_PLAN, pace, calls), broken, "{pace:?}, after {calls} calls");
-        }
-        for calls in needed..needed + 2 {
-            let whole = (Ok(Verdict::Optimal(5)), false);
-            assert_eq!(check_broken(CROSSING_PLAN, pace, calls), whole, "{pace:?}, after {calls} calls");
+        for calls in 0..=112 {
+            let wanted = if calls < needed { broken } else { whole };
+            assert_eq!(check_broken(CROSSING_PLAN, pace, calls), wanted, "{pace:?}, after {calls} calls");
         }
     }
+}
+
+#[test]
+fn a_source_that_fails_is_told_from_one_that_is_too_long() {
+    let mut source = FuseSource::of(CROSSING_ONE.as_bytes(), Pace::AllAtOnce, Some(1));
+    let answer = check_from(Global, &CROSSING.problem(), CROSSING_PLAN.as_bytes(), &mut source, 111);
+    assert_eq!(answer, Err(FromFault::Device));
 }
 
 /// A plan that isn't valid and a limit without a bound are refused before the certificate is pulled, and a bound beside
