@@ -2,11 +2,11 @@
 
 import re
 from collections.abc import Callable
-from concurrent.futures import ThreadPoolExecutor
 from dataclasses import dataclass
 from pathlib import Path
 
-from harness import SIDE_BY_SIDE, run_small, told
+from harness import run_small, told
+from jobs import side_by_side
 from lemma_damage import damage
 from random_problems import KINDS, drawn
 from tree_damage import damaged
@@ -63,17 +63,16 @@ class Search:
         place = folder / f"drawn-{self.name}"
         place.mkdir()
         bases, bare = [], 0
-        with ThreadPoolExecutor(SIDE_BY_SIDE) as pool:
-            for at in range(0, len(PROBLEMS), CERTIFICATES):
-                problems = PROBLEMS[at:at + CERTIFICATES]
-                for base in pool.map(lambda problem: self.solved(place, *problem), problems):
-                    cert = base.cert()
-                    has_part = any(part in cert for part in self.parts)
-                    if len(bases) < CERTIFICATES and len(cert) <= MOST_BYTES and (has_part or bare < BARE):
-                        bases.append(base)
-                        bare += not has_part
-                if len(bases) == CERTIFICATES:
-                    break
+        for at in range(0, len(PROBLEMS), CERTIFICATES):
+            problems = PROBLEMS[at:at + CERTIFICATES]
+            for base in side_by_side(lambda problem: self.solved(place, *problem), problems, f"solving by {self.name}"):
+                cert = base.cert()
+                has_part = any(part in cert for part in self.parts)
+                if len(bases) < CERTIFICATES and len(cert) <= MOST_BYTES and (has_part or bare < BARE):
+                    bases.append(base)
+                    bare += not has_part
+            if len(bases) == CERTIFICATES:
+                break
         return bases
 
     def solved(self, folder, kind, number):

@@ -11,9 +11,11 @@ import time
 from dataclasses import dataclass
 from pathlib import Path
 
+from progress import say
+
 TESTS = Path(__file__).resolve().parents[1]
 
-# The proved program, and the program that the scripts try: what MAPF names, else the proved one.
+# The proved program, and the program that the runners try: what MAPF names, else the proved one.
 PROVED = TESTS.parent / "crates" / "mapf" / "out" / "mapf"
 PROGRAM = Path(os.environ.get("MAPF") or PROVED).absolute()
 
@@ -26,9 +28,6 @@ SMALL_MEMORY = 64 << 20
 
 # Each of these words stands for a file of the case in a folder of its own.
 FILES = {"MAP": "map", "SCEN": "scen", "PLAN": "plan", "CERT": "cert", "EVENTS": "events"}
-
-# How many runs a script that makes thousands of them has side by side.
-SIDE_BY_SIDE = 4
 
 # The standard streams in the order of their numbers. A case puts one elsewhere: CLOSED is no place at all,
 # and UNREAD a pipe that nobody reads. Standard input may be a file of the case.
@@ -81,12 +80,14 @@ def heed_signals():
 def run(words, places=None, environment=None, most_bytes=BYTES, program=PROGRAM, seconds=SECONDS):
     """Runs the program. A standard stream that has a place goes there, and an output that has none is caught."""
     places = places or {}
-    closed = [number for number, name in enumerate(STREAMS) if places.get(name) == "CLOSED"]
 
     def prepare():
         bound(most_bytes)
-        for number in closed:
-            os.close(number)
+        for number, name in enumerate(STREAMS):
+            if places.get(name) == "CLOSED":
+                os.close(number)
+            elif places.get(name) == "UNREAD":
+                leave_unread(number)
 
     given = places.get("stdin", "CLOSED")
     with (open(os.devnull if given == "CLOSED" else given, "rb") as input_, opened(places.get("stdout")) as out,
@@ -108,15 +109,19 @@ def run_small(words, program=PROGRAM):
     return Ended(ended.returncode, ended.stdout, ended.stderr)
 
 
+def leave_unread(number):
+    """Makes an output of this process a pipe that nobody reads. It is made where the program is about to run, so that
+    no other run that begins at this time has the end for reading."""
+    reader, writer = os.pipe()
+    os.dup2(writer, number)
+    os.close(reader)
+
+
 def opened(place):
     """What a standard stream is given for its place."""
     if place is None:
         return tempfile.TemporaryFile()
-    if place == "UNREAD":
-        reader, writer = os.pipe()
-        os.close(reader)
-        return open(writer, "wb")
-    return open(os.devnull if place == "CLOSED" else place, "wb")
+    return open(os.devnull if place in ("CLOSED", "UNREAD") else place, "wb")
 
 
 def caught(stream, place):
@@ -357,17 +362,30 @@ class Tally:
     def add(self, name, faults):
         if faults:
             self.failed += 1
-            print(f"{name}: {'; '.join(faults)}", flush=True)
+            say(f"{name}: {'; '.join(faults)}")
         else:
             self.passed += 1
 
     def skip(self, name, why):
         """Counts a test that can't be made on this machine."""
         self.skipped += 1
-        print(f"{name}: skipped, {why}", flush=True)
+        say(f"{name}: skipped, {why}")
+
+    def add_counts(self, passed, failed, skipped=0):
+        """Adds what others counted, who told it too."""
+        self.passed += passed
+        self.failed += failed
+        self.skipped += skipped
 
     def end(self):
-        """Prints the counts and answers the script's status."""
+        """Prints the counts and answers the runner's status."""
         skipped = f", {self.skipped} skipped" if self.skipped else ""
         print(f"{self.passed} passed, {self.failed} failed{skipped}")
         return 1 if self.failed else 0
+
+
+def last_counts(said):
+    """The numbers in the last line of what a runner said: of tests that passed, failed and were skipped. None where it
+    has no such line."""
+    found = re.search(r"(?:^|\n)(\d+) passed, (\d+) failed(?:, (\d+) skipped)?\n?$", said)
+    return tuple(int(number or 0) for number in found.groups()) if found else None

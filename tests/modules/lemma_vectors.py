@@ -21,14 +21,15 @@ OF_LINES, RULE_OF_LINES = "three", "The shapes and ranges of lines."
 
 
 def check_vectors(folder):
-    """All vectors for a checker, those of rules/check first. Those after them are of version 3."""
+    """All vectors for a checker, those of rules/check first. Those after them are of version 3. What is made for them
+    is put into this folder."""
     yield from with_older_versions(vectors_of("check"), folder)
     yield from lemma_vectors(folder)
     yield from in_newer_version(vectors_of("check"), folder)
 
 
 def lemma_vectors(folder):
-    """The vectors of version 3, in files of the folder, which the next ones replace."""
+    """The vectors of version 3, of which each is put into a folder in this one."""
     for kind, problem, title, text in texts():
         yield vector_of(folder, f"version 3, {kind}, {problem}, {title}", f"{title}.", problem,
                         *whole(text, len(PROBLEMS[problem]) - 1, PLANS.get(problem)))

@@ -8,6 +8,7 @@ import time
 
 from harness import TESTS, cases_of
 from lemma_vectors import check_vectors
+from progress import say
 
 sys.path[:0] = [str(TESTS / "tools"), str(TESTS.parent / "python")]
 
@@ -339,7 +340,7 @@ def stays_usable(browser, folder):
         pauses.append(time.monotonic() - before)
         time.sleep(0.05)
     found, seconds = line_of(verdict(browser)), time.monotonic() - began
-    print(f"a certificate of {size} bytes takes {seconds:.0f} s, the longest pause is {max(pauses):.2f} s", flush=True)
+    say(f"a certificate of {size} bytes takes {seconds:.0f} s, the longest pause is {max(pauses):.2f} s")
     faults += [] if found == "bound 1" else [f"{found}, wanted bound 1"]
     faults += [] if seconds < SECONDS else [f"it takes {seconds:.0f} s"]
     faults += [] if max(pauses) < MOST_PAUSE else [f"the page doesn't answer for {max(pauses):.1f} s"]

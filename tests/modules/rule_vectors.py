@@ -1,5 +1,6 @@
 """The vectors of rules/: folders with the texts of one run each, of which one rule decides what comes of it."""
 
+import tempfile
 from dataclasses import dataclass, replace
 from functools import cached_property
 from pathlib import Path
@@ -51,7 +52,8 @@ def vector_in(folder, kind):
 
 
 def with_older_versions(vectors, folder):
-    """Each vector, and once more with its plan text and its certificate in version 1 where they say the same in it."""
+    """Each vector, and once more with its plan text and its certificate in version 1 where they say the same in it.
+    What is made for it is put into this folder."""
     for vector in vectors:
         yield vector
         if texts := older_texts(vector):
@@ -68,7 +70,8 @@ def older_texts(vector):
 
 
 def put(texts, folder):
-    """Puts the texts into files of the folder, which the next ones replace."""
+    """Puts the texts into files of a new folder in this one."""
+    place = Path(tempfile.mkdtemp(dir=folder))
     for name, text in texts.items():
-        (folder / name).write_bytes(text)
-    return {name: folder / name for name in texts}
+        (place / name).write_bytes(text)
+    return {name: place / name for name in texts}

@@ -8,21 +8,18 @@ import shutil
 import subprocess
 import tempfile
 from collections import Counter
-from concurrent.futures import ThreadPoolExecutor
 from pathlib import Path
 
 import lemma_damage
 import tree_damage
 from command_lines import DEVICES, FILES, drawn_line
-from harness import OLD, SECONDS, SIDE_BY_SIDE, TESTS, Ended, cases_of, content, run, run_small, shown, told
+from harness import OLD, SECONDS, TESTS, Ended, cases_of, content, run, run_small, shown, told
+from jobs import side_by_side
 from lemma_vectors import check_vectors
 from random_problems import drawn
 from replies import drawn_lines
 from rule_vectors import vectors_of
 from rust_scripts import problem_names
-
-# How many runs of both programs a comparison has side by side.
-RUNS = SIDE_BY_SIDE // 2
 
 # By which searches each drawn problem is solved: the words for a search, and its limit.
 SEARCHES = {
@@ -54,10 +51,10 @@ class Twins:
         """For each name, has each program in turn give its answers in a folder of the same path. Answers come by what
         they are of, and have to be equal. Tells how often a run ended with which status."""
         statuses = Counter()
-        with ThreadPoolExecutor(RUNS) as pool:
-            for name, (proved, own) in zip(names, pool.map(lambda name: self.both(name, answers), names)):
-                tally.add(str(name), differences(proved, own))
-                statuses.update(answer.status for answer in own.values() if isinstance(answer, Ended))
+        found = side_by_side(lambda name: self.both(name, answers), names, tally.part)
+        for name, (proved, own) in zip(names, found):
+            tally.add(str(name), differences(proved, own))
+            statuses.update(answer.status for answer in own.values() if isinstance(answer, Ended))
         return "status " + ", ".join(f"{status}: {count}" for status, count in sorted(statuses.items(), key=str))
 
     def both(self, name, answers):
@@ -118,8 +115,7 @@ def compare_vectors(twins, tally):
 
 
 def kept_vectors():
-    """The command, the number of agents and the texts of each vector, by its name. They are read one by one, since the
-    files of some are replaced by those of the next ones."""
+    """The command, the number of agents and the texts of each vector, by its name."""
     with tempfile.TemporaryDirectory() as folder:
         kept = {f"check, {vector.name}": ("check", vector.agents, texts_of(vector))
                 for vector in check_vectors(Path(folder))}

@@ -1,13 +1,12 @@
 """Parts of a test that run side by side, each as soon as what it needs is done."""
 
-import contextlib
-import sys
 import threading
 import time
 from collections.abc import Callable
 from dataclasses import dataclass
 
 from harness import Tally
+from progress import SCREEN, say
 
 
 @dataclass(frozen=True)
@@ -20,59 +19,23 @@ class Part:
     needs: tuple[str, ...] = ()
 
 
-class Screen:
-    """Where lines are printed, and on a terminal also how far the parts are, below them."""
-
-    def __init__(self):
-        self.lock = threading.RLock()
-        self.progress = ""
-
-    @contextlib.contextmanager
-    def lines(self):
-        """For as long as lines are printed, nobody else prints any, and the progress isn't shown."""
-        with self.lock:
-            self.draw("")
-            yield
-            self.draw(self.progress)
-
-    def show(self, progress):
-        with self.lock:
-            self.progress = progress
-            self.draw(progress)
-
-    def draw(self, text):
-        if sys.stderr.isatty():
-            sys.stdout.flush()
-            print(f"\r\x1b[K{text}", end="", file=sys.stderr, flush=True)
-
-
 class PartTally(Tally):
     """What a part counts. Its lines begin with its name."""
 
-    def __init__(self, part, screen):
+    def __init__(self, part):
         super().__init__()
         self.part = part
-        self.screen = screen
         self.is_made = True  # Whether there is what other parts need of this one.
 
     def add(self, name, faults):
-        with self.screen.lines() if faults else contextlib.nullcontext():
-            super().add(f"{self.part}: {name}", faults)
+        super().add(f"{self.part}: {name}", faults)
 
     def skip(self, name, why):
-        with self.screen.lines():
-            super().skip(f"{self.part}: {name}", why)
+        super().skip(f"{self.part}: {name}", why)
 
     def say(self, text):
         """Prints a line, or several."""
-        with self.screen.lines():
-            print(f"{self.part}: {text}", flush=True)
-
-    def add_counts(self, passed, failed, skipped=0):
-        """Adds what others counted, who told it too."""
-        self.passed += passed
-        self.failed += failed
-        self.skipped += skipped
+        say(f"{self.part}: {text}")
 
 
 class Schedule:
@@ -82,7 +45,6 @@ class Schedule:
         self.waiting = list(parts)
         self.count = len(self.waiting)
         self.jobs = jobs
-        self.screen = Screen()
         self.changed = threading.Condition()
         self.running = {}
         self.done = {}
@@ -94,12 +56,10 @@ class Schedule:
             worker.start()
         for worker in workers:
             worker.join()
-        self.screen.show("")
+        SCREEN.show(self, "")
         whole = Tally()
         for tally in self.done.values():
-            whole.passed += tally.passed
-            whole.failed += tally.failed
-            whole.skipped += tally.skipped
+            whole.add_counts(tally.passed, tally.failed, tally.skipped)
         return whole
 
     def work(self):
@@ -133,7 +93,7 @@ class Schedule:
                 for part in self.waiting:
                     if all(name in self.done for name in part.needs):
                         self.waiting.remove(part)
-                        self.running[part.name] = PartTally(part.name, self.screen)
+                        self.running[part.name] = PartTally(part.name)
                         self.tell()
                         return part
                 self.changed.wait()
@@ -142,7 +102,7 @@ class Schedule:
     def tell(self):
         """Shows how far the parts are."""
         at_work = ", ".join(self.running) or "nothing"
-        self.screen.show(f"{len(self.done)} of {self.count} parts are done; at work: {at_work}")
+        SCREEN.show(self, f"rust: {len(self.done)} of {self.count} parts are done; at work: {at_work}")
 
 
 def counts_of(tally):

@@ -4,7 +4,7 @@ import re
 import subprocess
 import sys
 
-from harness import TESTS
+from harness import TESTS, last_counts
 from random_problems import KINDS
 
 # How many problems are drawn.
@@ -15,8 +15,6 @@ TIMES = re.compile(r"(?m)^.*, [\d.]+ s\n")
 
 # How many characters of the rest are told.
 MOST_TOLD = 20_000
-
-COUNTS = re.compile(r"(\d+) passed, (\d+) failed(?:, (\d+) skipped)?\n?")
 
 
 def problem_names():
@@ -43,13 +41,11 @@ def script(builds, name, words=()):
         ended = subprocess.run([sys.executable, TESTS / "runners" / name, *words], env=environment,
                                stdin=subprocess.DEVNULL, stdout=subprocess.PIPE, stderr=subprocess.STDOUT, text=True,
                                errors="replace")
-        last = ended.stdout[ended.stdout.removesuffix("\n").rfind("\n") + 1:]
-        counts = COUNTS.fullmatch(last)
-        if counts:
-            tally.add_counts(*(int(count or 0) for count in counts.groups()))
+        counts = last_counts(ended.stdout)
+        tally.add_counts(*counts or (0, 0, 0))
         if ended.returncode or not counts:
             tally.say(f"status {ended.returncode}\n{TIMES.sub('', ended.stdout)[-MOST_TOLD:]}")
-        if not counts or ended.returncode and counts[2] == "0":
-            tally.add("its end", [f"status {ended.returncode}, and last {last!r}"])
+        if not counts or ended.returncode and not counts[1]:
+            tally.add("its end", [f"status {ended.returncode}, and last {ended.stdout[-200:]!r}"])
 
     return attempt
