@@ -197,6 +197,7 @@ fn errors_of_later_lines_name_them() {
         ("end", K2(4)),
         ("at 0,0 0 1\nat 0,0 0 0\n", K3(5)),
         ("at 0,0 0 1\nat 0,0 1\n", K1(5)),
+        ("at 0,0 0 1 \n", K1(4)),
         ("end\nend\n", K4(5)),
         // A line has at most 64 bytes: these may go on, and one more may not.
         ("0123456789012345678901234567890123456789012345678901234567890123", K2(4)),

@@ -61,6 +61,7 @@ fn wrong_heads_and_answers_are_refused() {
         &[
             (1..=1, "mapf-plan 3\n", Some(P1(1))),
             (1..=1, "mapf-plan 02\n", Some(P1(1))),
+            (3..=3, "cost 6\n", Some(P1(3))),
             (3..=3, "cost 1999999801\n", Some(P3(3))),
             (3..=5, "limit 100001\n", Some(P3(3))),
             (3..=5, "limit 100001 \n", Some(P1(3))),
