@@ -99,6 +99,8 @@ fn four_sets_of_three_of_four_agents_count_a_third_each() {
 #[test]
 fn what_cannot_be_packed_is_left_out() {
     assert_sum(&[], 0);
+    let packing = assert_sum(&[excess([], 3), excess([0, 1], 0), excess([0, AGENTS], 5)], 0);
+    assert_eq!(packing.groups.len(), 0);
     let packing = assert_sum(&weighted(&[(0, AGENTS, 5), (0, 1, 0), (0, 2, 1)]), 1);
     assert_eq!(packing.groups.len(), 1);
 }
