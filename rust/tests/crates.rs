@@ -17,8 +17,6 @@ mod cases;
 mod checks;
 #[path = "crates/ends.rs"]
 mod ends;
-#[path = "crates/explain.rs"]
-mod explain;
 #[path = "crates/formats.rs"]
 mod formats;
 #[path = "crates/groups.rs"]
@@ -45,7 +43,11 @@ mod plans;
 mod player;
 #[path = "crates/prices.rs"]
 mod prices;
+#[path = "crates/problems.rs"]
+mod problems;
 mod refusing;
+#[path = "crates/running.rs"]
+mod running;
 #[path = "crates/runs.rs"]
 mod runs;
 #[path = "crates/search.rs"]

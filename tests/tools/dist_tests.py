@@ -177,7 +177,7 @@ def compiled_faults(place, folder):
     environment = {**os.environ, "PKG_CONFIG_PATH": str(place / "lib" / "pkgconfig")}
     told = [subprocess.run(["pkg-config", option, "mapf"], env=environment, capture_output=True, text=True).stdout
             for option in ("--cflags", "--libs", "--modversion")]
-    program, source = str(folder / "calls"), str(TESTS / "library_calls.c")
+    program, source = str(folder / "calls"), str(TESTS / "c" / "library_calls.c")
     words = ["gcc", "-std=c99", *told[0].split(), source, *told[1].split(), f"-Wl,-rpath,{place / 'lib'}"]
     ended = subprocess.run([*words, "-o", program], capture_output=True, text=True)
     if ended.returncode:

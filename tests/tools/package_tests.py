@@ -1,5 +1,6 @@
-"""Tries the package that `pip install .` installs, in fresh environments without network: its program, its library and
-its commands, the examples of the documents, and what it says where it can't be built.
+"""Tries the package that `pip install .` installs, from the tree and from its source archive, in fresh environments
+without network, by Python 3.10 and the newest one where they are on the path: its program, its library and its commands,
+the examples of the documents, and what it says where it can't be built.
 """
 
 import ast

@@ -16,7 +16,7 @@ from mapf.tools import recheck  # as a module, so that thousands of runs don't s
 RECHECK = TESTS.parent / "tools" / "recheck"
 EXAMPLES = TESTS.parent / "examples"
 
-# The examples, as run_examples solves them, each with its number of agents.
+# The examples, as runners/examples solves them, each with its number of agents.
 SOLVED = [("empty-8-8", 1), ("empty-8-8", 4), ("empty-8-8", 6), ("random-32-32", 5), ("random-32-32", 6),
           ("random-32-32", 8), ("random-32-32", 16), ("warehouse-161-63", 6), ("warehouse-161-63", 10)]
 LIMIT = "60"

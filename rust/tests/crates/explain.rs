@@ -1,1 +1,0 @@
-//! Lines that `explain` tells the meaning of.
