@@ -55,6 +55,7 @@ fn a_constraint_is_met_by_one_that_asks_for_as_much() {
         (2, least(0), false),
         (2, not_at(7, 1), true),
         (2, not_at(5, 3), false),
+        (0, not_at(5, 3), false),
         (0, most(9), false),
         (3, not_at(7, 1), false),
     ] {

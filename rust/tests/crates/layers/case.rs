@@ -30,17 +30,11 @@ pub fn cases() -> impl Iterator<Item = (Case, Drawn)> {
 /// The set of these constraints.
 pub fn set_of(constraints: impl IntoIterator<Item = PathConstraint>) -> ConstraintSet {
     let mut set = ConstraintSet::new(Global);
-    fill(&mut set, constraints);
-    set
-}
-
-/// Puts these constraints in place of those of a set.
-pub fn fill(set: &mut ConstraintSet, constraints: impl IntoIterator<Item = PathConstraint>) {
-    set.reset();
     for constraint in constraints {
         set.add(constraint).expect("memory");
     }
     set.tidy();
+    set
 }
 
 impl Case {

@@ -22,6 +22,7 @@ fn layers_are_as_wide_as_all_cheapest_paths() {
             let width = row.iter().filter(|&&cell| rests.at(cell, tick) == cost - tick).count();
             assert_eq!(layers.width(tick), width as u32, "case {seed}, tick {tick}");
         }
+        assert_eq!(layers.width(cost + 1), 1, "case {seed}, after the arrival");
         let mut steps = BestSteps::of(Global, &case.grid).expect("memory");
         let table = ConflictAvoidanceTable::of(Global, 1).expect("memory");
         let path = layers.best_path(Global, &table, &mut steps, 0).expect("memory");

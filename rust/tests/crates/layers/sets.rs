@@ -1,5 +1,5 @@
 //! Sets of constraints: which paths obey them, and which other sets they cover.
-use super::case::{Case, cases, fill, set_of};
+use super::case::{Case, cases, set_of};
 use crate::crates::mapf_lemmas::PathConstraint;
 use crate::crates::mapf_model::{Cell, Tick};
 use crate::made::Drawn;
@@ -64,9 +64,10 @@ fn a_set_knows_which_sets_it_covers() {
         let is_covered = case.constraints.iter().all(|&constraint| is_met(&shorter, constraint));
         assert_eq!(part.covers(&case.set), is_covered, "case {}", case.seed);
         assert_eq!(part == case.set, is_covered, "case {}", case.seed);
+        part.reset();
+        assert_eq!(part, set_of([]), "case {}", case.seed);
         let own = case.set.constraints(Global, 7).expect("memory");
         assert!(own.iter().all(|own| own.agent == 7), "case {}", case.seed);
-        fill(&mut part, own.iter().map(|own| own.constraint));
-        assert_eq!(part, case.set, "case {}", case.seed);
+        assert_eq!(set_of(own.iter().map(|own| own.constraint)), case.set, "case {}", case.seed);
     }
 }

@@ -10,6 +10,9 @@ const AGENTS: u32 = 12;
 /// The edges of a triangle.
 const TRIANGLE: [(u32, u32); 3] = [(0, 1), (1, 2), (0, 2)];
 
+/// The edges of a cycle of five.
+const CYCLE: [(u32, u32); 5] = [(0, 1), (1, 2), (2, 3), (3, 4), (0, 4)];
+
 /// Excesses of these pairs of agents, of so many ticks each.
 fn weighted(pairs: &[(u32, u32, u32)]) -> Vec<Excess> {
     pairs.iter().map(|&(low, high, ticks)| excess([low, high], ticks)).collect()
@@ -46,9 +49,9 @@ fn assert_sum(excesses: &[Excess], sum: u64) -> Packing {
 #[test]
 fn pairs_of_one_component_are_packed() {
     assert_sum(&pairs(&TRIANGLE), 2);
-    // A star, a cycle of five and a chain.
+    assert_sum(&pairs(&CYCLE), 3);
+    // A star and a chain.
     assert_sum(&pairs(&[(0, 1), (0, 2), (0, 3)]), 1);
-    assert_sum(&pairs(&[(0, 1), (1, 2), (2, 3), (3, 4), (0, 4)]), 3);
     assert_sum(&weighted(&[(0, 1, 2), (1, 2, 3), (2, 3, 2)]), 4);
     assert_sum(&complete(4), 2);
     assert_sum(&complete(5), 3);
@@ -63,10 +66,11 @@ fn a_triangle_is_a_group_of_halves() {
 }
 
 #[test]
-fn triangles_apart_are_each_rounded_up() {
-    let both = [TRIANGLE, [(5, 6), (6, 7), (5, 7)]].concat();
-    assert_sum(&pairs(&both), 4);
-    assert_sum(&pairs(&[&both[..], &[(2, 5)]].concat()), 4);
+fn odd_cycles_apart_are_each_rounded_up() {
+    let triangles = [TRIANGLE, [(5, 6), (6, 7), (5, 7)]].concat();
+    assert_sum(&pairs(&triangles), 4);
+    assert_sum(&pairs(&[&triangles[..], &[(2, 5)]].concat()), 4);
+    assert_sum(&pairs(&[CYCLE, CYCLE.map(|(low, high)| (low + 5, high + 5))].concat()), 6);
 }
 
 // Without rounding up, six agents in pairs are worth 3, by three pairs; two triangles are worth 4.
@@ -99,6 +103,8 @@ fn four_sets_of_three_of_four_agents_count_a_third_each() {
 #[test]
 fn what_cannot_be_packed_is_left_out() {
     assert_sum(&[], 0);
+    let packing = assert_sum(&[excess([], 3), excess([0, 1], 0), excess([0, AGENTS], 5)], 0);
+    assert_eq!(packing.groups.len(), 0);
     let packing = assert_sum(&weighted(&[(0, AGENTS, 5), (0, 1, 0), (0, 2, 1)]), 1);
     assert_eq!(packing.groups.len(), 1);
 }
