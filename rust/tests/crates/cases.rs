@@ -1,0 +1,1 @@
+//! Cases of lemmas, beside a search through all states.

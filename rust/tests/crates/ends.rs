@@ -1,0 +1,1 @@
+//! Runs whose sources and sinks end early, are slow or fail.

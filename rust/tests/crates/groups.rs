@@ -1,0 +1,1 @@
+//! The second search, beside plain search.

@@ -1,0 +1,1 @@
+//! Layers of states, beside a search through all of them.

@@ -1,0 +1,1 @@
+//! Readers and writers of the lines of version 3 of the certificate.

@@ -1,0 +1,1 @@
+//! Packings of groups, beside all packings.

@@ -1,0 +1,1 @@
+//! Distances, tables of constraints, the search of one agent, and the first conflict of a plan.

@@ -1,0 +1,1 @@
+//! The plan that the second search begins with, and its improvements.

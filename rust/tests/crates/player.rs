@@ -1,0 +1,1 @@
+//! The player and the dispatcher.

@@ -1,0 +1,1 @@
+//! Prices that raise the bound of the second search.

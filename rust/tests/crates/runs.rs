@@ -1,0 +1,1 @@
+//! Runs that solve, play and dispatch over streams of bytes.
