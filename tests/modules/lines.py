@@ -12,9 +12,14 @@ LINES = TESTS / "lines"
 class Line:
     """The arguments of a run, and the line that it prints on standard output. None if the arguments are refused."""
 
-    name: str
+    file: str
+    number: int
     words: list[str]
     printed: str | None
+
+    @property
+    def name(self):
+        return f"{self.file}, line {self.number}"
 
     def faults(self):
         """How the run isn't as it has to be."""
@@ -27,9 +32,9 @@ class Line:
 
 
 def all_lines():
-    """The cases of all files. A name has the file and the number of the line in it."""
+    """The cases of all files."""
     for path in sorted(LINES.iterdir()):
         for number, line in enumerate(path.read_text().splitlines(), 1):
             if line and not line.startswith("#"):
                 words, tab, printed = line.partition("\t")
-                yield Line(f"{path.name}:{number}", shlex.split(words), printed if tab else None)
+                yield Line(path.name, number, shlex.split(words), printed if tab else None)

@@ -2,6 +2,7 @@
 use crate::crates::mapf_model::{Agent, Cell, Grid, Path, Plan, Problem};
 use crate::rattle_std::Vec;
 use crate::rattle_std::alloc::Global;
+use std::ops::Range;
 
 /// A list of the crates.
 pub fn list<T>(items: impl IntoIterator<Item = T>) -> Vec<T> {
@@ -53,6 +54,18 @@ pub fn corridor(length: u32) -> Problem {
     problem_on(grid, &[(0, length - 1), (length - 1, 0)])
 }
 
+/// An agent whose goal is in a corridor, beside its start, and so many agents that pass this goal, one behind the
+/// other. It can rest at its goal only behind them all, so each of them and it have the same cost: one more than they
+/// are.
+pub fn passing(count: u32) -> Problem {
+    let goal = count + 1;
+    let width = goal * 2;
+    let grid = grid(width as usize, 2, |x, y| y == 0 || x == goal as usize);
+    let passers = (0..count).map(|place| (place, goal + 1 + place));
+    let ends: std::vec::Vec<(u32, u32)> = [(width + goal, goal)].into_iter().chain(passers).collect();
+    problem_on(grid, &ends)
+}
+
 /// Two agents that meet in the middle of a corridor which winds through 2,047 rows of 2,048 cells, at tick 1,049,087. No
 /// constraint can name that tick.
 pub fn late_meeting() -> Problem {
@@ -101,6 +114,11 @@ pub fn drawn(shape: Shape, seed: u64) -> Option<Problem> {
     let grid = Grid::of(shape.width, shape.height, list(free))?;
     let agents = starts.into_iter().zip(goals).map(|(start, goal)| Agent { start: Cell(start), goal: Cell(goal) });
     Problem::of(grid, list(agents))
+}
+
+/// The problems that these seeds draw.
+pub fn each_drawn(shape: Shape, seeds: Range<u64>) -> impl Iterator<Item = Problem> {
+    seeds.filter_map(move |seed| drawn(shape, seed))
 }
 
 /// Draws so many of the cells, mostly different ones: one of twenty may be drawn again. None if there are too few.

@@ -4,7 +4,8 @@ use crate::crates::mapf_certificate::{
     Cert, CertFault, CertLines, PlanAnswer, PlanText, Version, convert_cert, read_cert, read_plan, write_cert,
     write_plan,
 };
-use crate::crates::mapf_model::{Block, BytesSource, Cause, Cell, Claim, Entry, Grid, Item, Label};
+use crate::crates::mapf_model::devices::{FuseSource, Pace};
+use crate::crates::mapf_model::{Block, BytesSource, Cause, Cell, Claim, Entry, Grid, Item, Label, Source};
 use crate::made::{grid_of, list};
 use crate::problems::*;
 use crate::rattle_std::alloc::Global;
@@ -32,19 +33,25 @@ fn a_certificate_is_read_whole() {
     }
 }
 
+/// A source gives the crossing's certificate of this version.
+#[track_caller]
+fn assert_items_of<S: Source>(source: &mut S, version: Version) {
+    let mut lines = CertLines::open(Global, 3, 3, 113).expect("memory");
+    assert_eq!(lines.header(source), Ok((2, Claim::Cost(5))), "{version:?}");
+    assert_eq!(lines.version(), version);
+    for (line, item) in crossing_items() {
+        let read = lines.next_item(source).expect("an item");
+        assert_eq!(format!("{read:?}"), format!("{:?}", Some(item)), "{version:?}");
+        assert_eq!(lines.line(), line, "{version:?}");
+    }
+    assert!(matches!(lines.next_item(source), Ok(None)), "{version:?}");
+}
+
 #[test]
 fn a_certificate_is_read_item_by_item() {
     for (version, text) in CROSSING_CERTS {
-        let mut source = BytesSource::of(text.as_bytes());
-        let mut lines = CertLines::open(Global, 3, 3, 113).expect("memory");
-        assert_eq!(lines.header(&mut source), Ok((2, Claim::Cost(5))), "{version:?}");
-        assert_eq!(lines.version(), version);
-        for (line, item) in crossing_items() {
-            let read = lines.next_item(&mut source).expect("an item");
-            assert_eq!(format!("{read:?}"), format!("{:?}", Some(item)), "{version:?}");
-            assert_eq!(lines.line(), line, "{version:?}");
-        }
-        assert!(matches!(lines.next_item(&mut source), Ok(None)), "{version:?}");
+        assert_items_of(&mut FuseSource::of(text.as_bytes(), Pace::ByteByByte, None), version);
+        assert_items_of(&mut FuseSource::of(text.as_bytes(), Pace::AllAtOnce, None), version);
     }
 }
 
