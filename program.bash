@@ -45,7 +45,7 @@ choose_cargos() {
   [[ $target == /* ]] || target=$PWD/$target
   program=$target/release/mapf
   sources=(crates.txt Cargo.toml Cargo.lock build.rs)
-  sources+=('crates/!(mapf_rows*)/src/**/*.rt' 'rust/!(tests|examples)/**/*.rs')
+  sources+=('crates/!(mapf_rows)/src/**/*.rt' 'rust/!(tests|examples)/**/*.rs')
 }
 
 # Prints a line for each of these files and for each source. It becomes another program, in another folder, so a shell

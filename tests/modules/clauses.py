@@ -164,6 +164,14 @@ def rest_of_signature(indent, line, lines):
         yield line
 
 
+def contracts(crate):
+    """What the contracts of a crate say: the functions that other crates can call with their clauses, file by file, and
+    the texts of its definitions."""
+    called = {path.relative_to(crate): [(one.type, one.signature) for one in called]
+              for path, called in called_functions(crate) or ()}
+    return called, {path.relative_to(crate): path.read_text() for path in (crate / "specs").rglob("*.antt")}
+
+
 def all_clauses():
     """Each named promise with its function's name."""
     return {

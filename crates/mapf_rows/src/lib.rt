@@ -1,9 +1,16 @@
-//! Which worked problems do the tests run on, and how are their texts changed?
+//! Do tables of constraints and of distances, the search of one agent and the search for the first conflict, none of
+//! which a command shows on its own, give values that are worked out by hand?
 #![tactic(auto)]
 
-mod given;
-pub mod problems;
-pub mod texts;
-pub mod version_one;
-
-pub use given::{Given, plan_of, problem_of};
+#[cfg(test)]
+mod bars;
+#[cfg(test)]
+mod conflicts;
+#[cfg(test)]
+mod distances;
+#[cfg(test)]
+mod expect;
+#[cfg(test)]
+mod made;
+#[cfg(test)]
+mod searches;
