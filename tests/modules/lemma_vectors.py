@@ -7,7 +7,7 @@ from dataclasses import replace
 
 from lemma_texts import JUDGED_ALONE, PLAIN, PROBLEMS
 from lemma_tree_texts import JUDGED_IN_TREES, PLANS, RANGES, SHAPES
-from rule_vectors import INPUTS, Vector, put, vectors_of, with_older_versions
+from rule_vectors import INPUTS, Vector, vectors_of, with_older_versions
 from versions import TITLE_TWO, in_version_three
 
 # This vector claims a bound beside a plan, which fits in version 3 alone.
@@ -16,40 +16,40 @@ FITS = "fit-claim-of-a-bound-beside-a-plan"
 LEMMAS = ("one", "two", "never", "cases")
 CODES = {"K": "C2 ", "C": ""}
 
-# The problem on which single lines are tried, and their rule.
-OF_LINES, RULE_OF_LINES = "three", "The shapes and ranges of lines."
+# The problem on which single lines are tried, and what decides them.
+OF_LINES, WHY_OF_LINES = "three", "The shapes and ranges of lines."
 
 
-def check_vectors(folder):
-    """All vectors for a checker, those of rules/check first. Those after them are of version 3. What is made for them
-    is put into this folder."""
-    yield from with_older_versions(vectors_of("check"), folder)
-    yield from lemma_vectors(folder)
-    yield from in_newer_version(vectors_of("check"), folder)
+def check_vectors():
+    """All vectors for a checker, those of rules/check first. Those after them are of version 3."""
+    yield from with_older_versions(vectors_of("check"))
+    yield from lemma_vectors()
+    yield from in_newer_version(vectors_of("check"))
 
 
-def lemma_vectors(folder):
-    """The vectors of version 3, of which each is put into a folder in this one."""
+def lemma_vectors():
+    """The vectors of version 3."""
     for kind, problem, title, text in texts():
-        yield vector_of(folder, f"version 3, {kind}, {problem}, {title}", f"{title}.", problem,
-                        *whole(text, len(PROBLEMS[problem]) - 1, PLANS.get(problem)))
+        yield made_vector(f"version 3, {kind}, {problem}, {title}", f"{title}.", problem,
+                          *whole(text, len(PROBLEMS[problem]) - 1, PLANS.get(problem)))
     for number, line, wanted in lines():
         plan, cert, _ = whole(PLAIN.removeprefix(" / "), len(PROBLEMS[OF_LINES]) - 1, None)
         cert[number - 1] = line
-        yield vector_of(folder, f"version 3, line {number}, {line}", RULE_OF_LINES, OF_LINES, plan, cert,
-                        f"refused C2 {wanted} {number}")
+        yield made_vector(f"version 3, line {number}, {line}", WHY_OF_LINES, OF_LINES, plan, cert,
+                          f"refused C2 {wanted} {number}")
 
 
-def in_newer_version(vectors, folder):
+def in_newer_version(vectors):
     """The vectors of version 2 with the certificate in version 3, where it is of the grammar. In it a line has another
     number, so what is wanted of one that is refused ends before that.
     """
     for vector in vectors:
-        is_text = vector.texts[-1].startswith(TITLE_TWO) and not vector.wanted.startswith("refused C2")
+        cert = vector.texts["cert"]
+        is_text = cert.startswith(TITLE_TWO) and not vector.wanted.startswith("refused C2")
         if is_text and vector.name != FITS:
-            cert = put({"cert": in_version_three(vector.texts[-1])}, folder)
             wanted = re.sub(r"^(refused C[6-9]) [0-9]+$", r"\1", vector.wanted)
-            yield replace(vector, name=f"{vector.name}, in version 3", wanted=wanted, files={**vector.files, **cert})
+            yield replace(vector, name=f"{vector.name}, in version 3", wanted=wanted,
+                          texts=vector.texts | {"cert": in_version_three(cert)})
 
 
 def texts():
@@ -77,12 +77,12 @@ def lines():
                     yield 5 if shape.startswith("prices") else 4, line, wanted
 
 
-def vector_of(folder, name, rule, problem, plan, cert, wanted):
+def made_vector(name, why, problem, plan, cert, wanted):
     """The vector of a problem and the lines of both texts."""
     grid, *agents = PROBLEMS[problem]
     made = {"map": map_of(grid), "scen": scenario_of(grid, agents), "plan": plan, "cert": cert}
-    files = put({kind: "\n".join([*made[kind], ""]).encode() for kind in INPUTS["check"]}, folder)
-    return Vector(name, rule, len(agents), wanted, files)
+    texts = {kind: "\n".join([*made[kind], ""]).encode() for kind in INPUTS["check"]}
+    return Vector(name, why, len(agents), wanted, texts)
 
 
 def map_of(grid):

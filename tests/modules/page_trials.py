@@ -229,7 +229,7 @@ def texts_with_meanings():
 
 def agrees_on_vectors(browser, folder):
     opened(browser)
-    faults, given = [], [*vectors(folder), *cases()]
+    faults, given = [], [*vectors(), *cases()]
     for at in range(0, len(given), AT_ONCE):
         part = given[at:at + AT_ONCE]
         for (name, wanted, *_), line in zip(part, lines_of(browser, [texts for _, _, *texts in part])):
@@ -237,10 +237,10 @@ def agrees_on_vectors(browser, folder):
     return faults[:5]
 
 
-def vectors(folder):
+def vectors():
     """The name of each vector, the verdict without what follows a code, the number of agents, and the texts."""
-    for vector in check_vectors(folder):
-        yield vector.name, re.sub(r"^(refused \S+).*", r"\1", vector.wanted), str(vector.agents), *vector.texts
+    for vector in check_vectors():
+        yield vector.name, re.sub(r"^(refused \S+).*", r"\1", vector.wanted), str(vector.agents), *vector.texts.values()
 
 
 def cases():

@@ -116,17 +116,9 @@ def compare_vectors(twins, tally):
 
 def kept_vectors():
     """The command, the number of agents and the texts of each vector, by its name."""
-    with tempfile.TemporaryDirectory() as folder:
-        kept = {f"check, {vector.name}": ("check", vector.agents, texts_of(vector))
-                for vector in check_vectors(Path(folder))}
-    for command in ("dispatch", "play"):
-        kept |= {f"{command}, {vector.name}": (command, vector.agents, texts_of(vector))
-                 for vector in vectors_of(command)}
-    return kept
-
-
-def texts_of(vector):
-    return {name: path.read_bytes() for name, path in vector.files.items()}
+    vectors = {"check": check_vectors(), "dispatch": vectors_of("dispatch"), "play": vectors_of("play")}
+    return {f"{command}, {vector.name}": (command, vector.agents, vector.texts)
+            for command, of_command in vectors.items() for vector in of_command}
 
 
 def compare_problems(twins, tally):

@@ -238,6 +238,7 @@ def runs(place):
         "checksums": (["sha256sum", "--quiet", "-c", "SHA256SUMS"], 0, ""),
         "draw": (["tools/draw", *problem, "plan.txt"], 0, "</html>\n"),
         "manual": (["tools/manual", "shared"], 0, "shared/man/man1/mapf.1\n"),
+        "vectors": (["tests/vectors", "--without-3", "./mapf", "check"], 0, " passed, 0 failed\n"),
     }
     if (place / "tools" / "recheck").exists():
         found["recheck"] = (["tools/recheck", *problem, "plan.txt", "cert.txt"], 0, "optimal 104\n")
