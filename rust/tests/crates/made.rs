@@ -70,7 +70,7 @@ pub fn passing(count: u32) -> Problem {
 /// constraint can name that tick.
 pub fn late_meeting() -> Problem {
     // Every second row is open, and each row between two of them has a gap at one end.
-    let is_free = |x: usize, y: usize| y % 2 == 0 || x == if y % 4 == 1 { 2047 } else { 0 };
+    let is_free = |x: usize, y: usize| y.is_multiple_of(2) || x == if y % 4 == 1 { 2047 } else { 0 };
     let last = 2046 * 2048;
     problem_on(grid(2048, 2047, is_free), &[(0, last), (last, 0)])
 }

@@ -85,9 +85,12 @@ fn no_plan_is_found_where_three_agents_keep_their_order() {
     assert!(!matches!(searched(&problem, 20).claim, Claim::Cost(_)));
 }
 
+/// The starts and goals of agents.
+type Ends = &'static [(u32, u32)];
+
 /// Problems of which it is plain before any search that no plan is valid, each with its certificate: two goals in one
 /// cell, a wall between start and goal, and two starts in one cell.
-const PLAIN: [(&str, &[(u32, u32)], &str); 3] = [
+const PLAIN: [(&str, Ends, &str); 3] = [
     (".@.", &[(0, 2), (2, 2)], "mapf-cert 3\nagents 2\nclaim impossible\nprices 0\nlemmas 0\nclash 0 1\nend\n"),
     (".@.", &[(0, 2)], "mapf-cert 3\nagents 1\nclaim impossible\nprices 0\nlemmas 0\nleaf 0 0 -\nend\n"),
     (
