@@ -2,48 +2,52 @@
 use super::searches::{Task, text_of, text_of_found, text_of_states};
 use super::{no_cell, no_move};
 use crate::crates::mapf_constraints::BarTable;
-use crate::crates::mapf_model::{Agent, Bar, Cell, Entry, Grid, Label};
+use crate::crates::mapf_model::{Bar, Cell, Entry, Grid, Label};
 use crate::crates::mapf_spacetime::Workspace;
 use crate::made::{Drawn, Shape, drawn, path_of};
 use crate::rattle_std::alloc::Global;
 use std::collections::BTreeSet;
 
-/// What the search has to find, for a task whose states are all reached, tick by tick.
+/// What the search has to find: all states of a task are reached, tick by tick, until the agent arrives.
 struct Reached<'a> {
     task: &'a Task,
     /// For each tick the cells in which the agent can be.
     cells: Vec<BTreeSet<Cell>>,
+    /// The first tick at which the agent is at its goal and may stay. None if there is no such tick.
+    cost: Option<u32>,
 }
 
 impl<'a> Reached<'a> {
-    /// Reaches all states up to a tick by which the agent has arrived, or never does: from the last constraint on a
-    /// shortest path arrives, which visits each cell once.
+    /// Behind the last constraint a shortest path arrives, which visits each cell once. So the agent has arrived by
+    /// the last tick here, or it never does.
     fn of(task: &'a Task) -> Reached<'a> {
-        let Agent { start, .. } = task.agent();
-        let mut reached = Reached { task, cells: vec![BTreeSet::from([start])] };
-        if task.list.bars_cell(start, 0) {
+        let start = task.agent().start;
+        let mut reached = Reached { task, cells: vec![BTreeSet::from([start])], cost: None };
+        if task.index.bars_cell(start, 0) {
             return reached;
         }
-        for tick in 0..task.list.horizon() + task.grid().width() * task.grid().height() {
+        for tick in 0..task.index.horizon() + task.grid().width() * task.grid().height() {
             let here = &reached.cells[tick as usize];
+            if here.contains(&task.agent().goal) && reached.may_stay(tick) {
+                reached.cost = Some(tick);
+                break;
+            }
             let next = here.iter().flat_map(|&cell| reached.steps(cell, tick)).collect();
             reached.cells.push(next);
         }
         reached
     }
 
-    /// Where the agent may be one tick later.
-    fn steps(&self, from: Cell, tick: u32) -> Vec<Cell> {
-        let list = &self.task.list;
-        let is_allowed = |to: &Cell| !list.bars_cell(*to, tick + 1) && !list.bars_move(from, *to, tick);
-        self.task.grid().steps(Global, from).as_slice().iter().copied().filter(is_allowed).collect()
+    /// Whether no constraint forbids the goal from this tick on.
+    fn may_stay(&self, tick: u32) -> bool {
+        self.task.index.last_on(self.task.agent().goal).is_none_or(|last| last < tick)
     }
 
-    /// The first tick at which the agent is at its goal and may stay.
-    fn cost(&self) -> Option<u32> {
-        let goal = self.task.agent().goal;
-        let may_stay = |tick| self.task.list.last_on(goal).is_none_or(|last| last < tick);
-        (0..).zip(&self.cells).find(|(tick, cells)| cells.contains(&goal) && may_stay(*tick)).map(|(tick, _)| tick)
+    /// Where the agent may be one tick later.
+    fn steps(&self, from: Cell, tick: u32) -> Vec<Cell> {
+        let bars = &self.task.index;
+        let is_allowed = |to: &Cell| !bars.bars_cell(*to, tick + 1) && !bars.bars_move(from, *to, tick);
+        self.task.grid().steps(Global, from).as_slice().iter().copied().filter(is_allowed).collect()
     }
 
     /// The least of the paths of this cost, by the cells from which the goal is reached at that tick.
@@ -64,11 +68,11 @@ impl<'a> Reached<'a> {
 
     /// The labels of the states that are reached with an f-value below the cost, or of all from which steps lead to the
     /// goal.
-    fn entries(&self, cost: Option<u32>) -> Vec<Entry> {
+    fn entries(&self) -> Vec<Entry> {
         let states = (0..).zip(&self.cells).flat_map(|(tick, cells)| cells.iter().map(move |&cell| (tick, cell)));
         let entry = |(tick, cell)| {
             let value = tick + self.task.distances.get(cell)?;
-            let label = match cost {
+            let label = match self.cost {
                 Some(cost) if value < cost => Label::Ticks(cost - tick),
                 Some(_) => return None,
                 None => Label::Never,
@@ -79,35 +83,39 @@ impl<'a> Reached<'a> {
     }
 
     fn text(&self) -> String {
-        let cost = self.cost();
-        let path = cost.map(|cost| path_of(&self.least_path(cost)));
-        text_of(path.as_ref(), &self.entries(cost))
+        let path = self.cost.map(|cost| path_of(&self.least_path(cost)));
+        text_of(path.as_ref(), &self.entries())
     }
 }
 
-/// Draws a constraint at a tick below a bound. Half of them forbid cells, one of sixteen the goal.
-fn drawn_bar(numbers: &mut Drawn, grid: &Grid, goal: Cell, ticks: u32) -> Bar {
+/// Draws a constraint at a tick below a bound. Half of them forbid cells.
+fn drawn_bar(numbers: &mut Drawn, grid: &Grid, ticks: u32) -> Bar {
     let cell = numbers.below(grid.width() * grid.height());
     let tick = numbers.below(ticks);
     let below = cell + grid.width();
-    match numbers.below(16) {
-        0 => no_cell(goal.0, tick),
-        1..8 => no_cell(cell, tick),
-        8..10 => no_move(cell, cell + 1, tick),
-        10..12 => no_move(cell + 1, cell, tick),
-        12..14 => no_move(cell, below, tick),
+    match numbers.below(8) {
+        0..4 => no_cell(cell, tick),
+        4 => no_move(cell, cell + 1, tick),
+        5 => no_move(cell + 1, cell, tick),
+        6 => no_move(cell, below, tick),
         _ => no_move(below, cell, tick),
     }
 }
 
-/// Draws the task of an agent on a small grid. None if the grid has no free cell.
+/// Draws the task of an agent on a small grid, or on a larger one for two seeds of ten. For an even seed its goal is
+/// forbidden at some tick, and for an odd one it never is. None if the grid has no free cell.
 fn drawn_task(seed: u64) -> Option<Task> {
     let mut numbers = Drawn::of(seed);
-    let (width, height) = (1 + numbers.below(8), 1 + numbers.below(8));
+    let most = if seed % 10 < 2 { 24 } else { 8 };
+    let (width, height) = (1 + numbers.below(most), 1 + numbers.below(most));
     let problem = drawn(Shape { width, height, blocked: 25, agents: 1 }, seed)?;
     let goal = problem.agents()[0].goal;
     let (count, ticks) = (numbers.below(4 * width * height), 1 + numbers.below(20));
-    let bars: Vec<Bar> = (0..count).map(|_| drawn_bar(&mut numbers, problem.grid(), goal, ticks)).collect();
+    let mut bars: Vec<Bar> = (0..count).map(|_| drawn_bar(&mut numbers, problem.grid(), ticks)).collect();
+    bars.retain(|bar| !matches!(bar, Bar::Cell { cell, .. } if *cell == goal));
+    if seed.is_multiple_of(2) {
+        bars.push(no_cell(goal.0, numbers.below(ticks)));
+    }
     Some(Task::of(problem, &bars))
 }
 
