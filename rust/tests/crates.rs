@@ -2,7 +2,10 @@
 //! brute force, devices that fail, and requests for memory that are refused.
 //!
 //! The crates are those of the package, as the build script translates them. Their types and calls take the allocator,
-//! and their collections are those of `rust/std`.
+//! and their collections are those of `rust/std`. With the feature `c` the crates need the package's calls for C, which
+//! aren't here, so these tests run without it.
+#![cfg(not(feature = "c"))]
+
 #[allow(clippy::all, unused)]
 mod crates {
     include!(concat!(env!("OUT_DIR"), "/crates.rs"));
