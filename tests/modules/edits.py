@@ -1,5 +1,5 @@
-"""Edits that make a crate wrong: the mutants, which the prover has to reject, and the faults of the second search and of
-what makes its first plan, of which it rejects some. They have the same form, and a folder for each crate.
+"""Edits that make a crate wrong: the mutants, which the prover has to reject, and the faults of the second search and
+of what makes its first plan, of which it rejects some. They have the same form, and a folder for each crate.
 """
 
 from dataclasses import dataclass

@@ -1,5 +1,5 @@
-//! How answers, refusals and errors of `solve` and `check` are told as JSON: the object on standard output, what standard
-//! error gets beside it, and the exit status.
+//! How answers, refusals and errors of `solve` and `check` are told as JSON: the object on standard output, what
+//! standard error gets beside it, and the exit status.
 use crate::crates::mapf_app::{
     Answered, CertFault, CheckFault, Fault, Input, Kind, MapFault, Output, PlanFault, PlanTextFault, ScenFault, Verdict,
 };

@@ -66,8 +66,8 @@ pub fn passing(count: u32) -> Problem {
     problem_on(grid, &ends)
 }
 
-/// Two agents that meet in the middle of a corridor which winds through 2,047 rows of 2,048 cells, at tick 1,049,087. No
-/// constraint can name that tick.
+/// Two agents that meet in the middle of a corridor which winds through 2,047 rows of 2,048 cells, at tick 1,049,087.
+/// No constraint can name that tick.
 pub fn late_meeting() -> Problem {
     // Every second row is open, and each row between two of them has a gap at one end.
     let is_free = |x: usize, y: usize| y.is_multiple_of(2) || x == if y % 4 == 1 { 2047 } else { 0 };

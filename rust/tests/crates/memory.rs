@@ -5,8 +5,8 @@ use std::fmt::Debug;
 /// How many requests of a call are refused one by one. Of those behind it some are, further and further apart.
 const EACH: usize = 2_000;
 
-/// Makes a call again and again, and refuses another of its requests for memory each time, alone and with all later ones.
-/// The call answers the same, or it gives the error that says so.
+/// Makes a call again and again, and refuses another of its requests for memory each time, alone and with all later
+/// ones. The call answers the same, or it gives the error that says so.
 #[track_caller]
 pub fn assert_refusals_told<T: PartialEq + Debug, E: Debug>(
     call: impl Fn() -> Result<T, E>,

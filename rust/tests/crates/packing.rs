@@ -1,5 +1,5 @@
-//! Packings of the excesses of sets of agents: they keep the rules of a certificate, and in small cases they are as great
-//! as those that brute force finds.
+//! Packings of the excesses of sets of agents: they keep the rules of a certificate, and in small cases they are as
+//! great as those that brute force finds.
 #[path = "packing/brute_force.rs"]
 mod brute_force;
 #[path = "packing/drawn.rs"]

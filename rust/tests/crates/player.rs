@@ -19,8 +19,8 @@ struct Given {
 }
 
 impl Given {
-    /// The problem on a grid in which each agent goes from the first cell of its path to the last, and the plan of these
-    /// paths, each a list of cell numbers.
+    /// The problem on a grid in which each agent goes from the first cell of its path to the last, and the plan of
+    /// these paths, each a list of cell numbers.
     #[track_caller]
     fn on(grid: Grid, paths: &[&[u32]]) -> Given {
         let ends: Vec<(u32, u32)> = paths.iter().map(|path| (path[0], path[path.len() - 1])).collect();

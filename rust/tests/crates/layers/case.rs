@@ -38,7 +38,8 @@ pub fn set_of(constraints: impl IntoIterator<Item = PathConstraint>) -> Constrai
 }
 
 impl Case {
-    /// Draws a case on a grid of up to four times four cells, of which about a fifth is blocked. None if no cell is free.
+    /// Draws a case on a grid of up to four times four cells, of which about a fifth is blocked. None if no cell is
+    /// free.
     fn draw(seed: u64, numbers: &mut Drawn) -> Option<Case> {
         let (width, height) = (2 + numbers.below(3), 1 + numbers.below(4));
         let free: Vec<bool> = (0..width * height).map(|_| numbers.below(5) > 0).collect();

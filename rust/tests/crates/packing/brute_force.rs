@@ -15,8 +15,8 @@ pub fn best_group(excesses: &[Excess], agents: u32, divisor: u32) -> u64 {
     greatest.div_ceil(divisor).into()
 }
 
-/// The least sum of whole numbers, one for each agent and none above `most`, such that those of each set's agents add up
-/// to its excess or more. No packing is greater.
+/// The least sum of whole numbers, one for each agent and none above `most`, such that those of each set's agents add
+/// up to its excess or more. No packing is greater.
 pub fn least_cover(excesses: &[Excess], agents: u32, most: u32) -> u64 {
     let covers = |numbers: &[u32], excess: &Excess| {
         excess.agents.iter().map(|&agent| numbers[agent as usize]).sum::<u32>() >= excess.excess

@@ -48,7 +48,8 @@ fn distinct(count: u32, bound: u32, numbers: &mut Drawn) -> BTreeSet<u32> {
     distinct
 }
 
-/// Packs excesses by a packer that may have served before. The packing keeps the rules, and a new packer makes the same.
+/// Packs excesses by a packer that may have served before. The packing keeps the rules, and a new packer makes the
+/// same.
 #[track_caller]
 fn pack(packer: &mut Packer, shape: Shape, excesses: &[Excess]) -> Packing {
     let packing = packer.pack(Global, excesses).expect("memory");

@@ -79,8 +79,8 @@ fn a_sink_that_fails_has_a_prefix() {
     }
 }
 
-/// What a sink took that fails after so many calls: nothing before the first one, and at most a page in that one. Whoever
-/// wrote into it knows whether it took all of this text, as it did in so many calls.
+/// What a sink took that fails after so many calls: nothing before the first one, and at most a page in that one.
+/// Whoever wrote into it knows whether it took all of this text, as it did in so many calls.
 #[track_caller]
 fn assert_paged(text: &str, calls: u64, most_calls: u64, write: impl Fn(&mut super::FuseSink) -> bool) {
     let mut sink = sink_of(2 * PAGE_ROOM, Pace::AllAtOnce, Some(calls));
