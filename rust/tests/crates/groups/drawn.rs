@@ -9,10 +9,11 @@ use crate::made::{Shape, drawn, each_drawn};
 use crate::memory::assert_refusals_told;
 use crate::rattle_std::alloc::Global;
 
-/// Where both searches end, they say the same, and a bound is no greater than the least sum of costs.
-fn assert_agrees(problem: &Problem, limit: u32) {
+/// Where both searches end, they say the same, and a bound is no greater than the least sum of costs. Plain search may
+/// make another number of splits.
+fn assert_agrees(problem: &Problem, limit: u32, plain_limit: u32) {
     let claim = searched(problem, limit).claim;
-    let least = match solve(Global, problem, limit).expect("memory") {
+    let least = match solve(Global, problem, plain_limit).expect("memory") {
         Answer::Found { plan, .. } => Some(check_plan(problem, &plan).expect("a valid plan")),
         Answer::Impossible { .. } => None,
         Answer::Limit { .. } => return,
@@ -27,20 +28,20 @@ fn assert_agrees(problem: &Problem, limit: u32) {
 #[test]
 fn it_agrees_with_plain_search_on_small_grids() {
     let shape = Shape { width: 4, height: 3, blocked: 15, agents: 3 };
-    each_drawn(shape, 0..100).for_each(|problem| assert_agrees(&problem, 300));
+    each_drawn(shape, 0..100).for_each(|problem| assert_agrees(&problem, 300, 300));
 }
 
 #[test]
 fn it_agrees_with_plain_search_of_more_agents() {
     let shape = Shape { width: 6, height: 6, blocked: 10, agents: 6 };
-    each_drawn(shape, 0..20).for_each(|problem| assert_agrees(&problem, 500));
+    each_drawn(shape, 0..20).for_each(|problem| assert_agrees(&problem, 500, 500));
 }
 
-// So many agents are searched in groups.
+// So many agents are searched in groups. Plain search seldom ends for them.
 #[test]
 fn it_agrees_with_plain_search_where_groups_are_searched() {
     let shape = Shape { width: 10, height: 10, blocked: 12, agents: 16 };
-    each_drawn(shape, 0..12).for_each(|problem| assert_agrees(&problem, 300));
+    each_drawn(shape, 0..40).for_each(|problem| assert_agrees(&problem, 300, 5000));
 }
 
 #[test]
@@ -54,9 +55,12 @@ fn its_bound_never_falls_as_the_limit_rises() {
 
 #[test]
 fn it_writes_the_same_texts_twice() {
-    let shape = Shape { width: 9, height: 9, blocked: 15, agents: 14 };
-    for problem in each_drawn(shape, 0..5) {
-        assert_eq!(searched(&problem, 200), searched(&problem, 200));
+    let wide = Shape { width: 9, height: 9, blocked: 15, agents: 14 };
+    let crowded = Shape { width: 6, height: 5, blocked: 12, agents: 13 };
+    for (shape, seeds, limit) in [(wide, 0..5, 200), (crowded, 2..4, 3)] {
+        for problem in each_drawn(shape, seeds) {
+            assert_eq!(searched(&problem, limit), searched(&problem, limit));
+        }
     }
 }
 

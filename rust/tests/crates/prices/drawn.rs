@@ -4,7 +4,7 @@ use crate::crates::mapf_cbs::{Answer, solve};
 use crate::crates::mapf_distance::goal_tables;
 use crate::crates::mapf_groups::{Outcome, Priced, search_below};
 use crate::crates::mapf_model::{Claim, Plan, Problem, Unwatched};
-use crate::groups::answers::cert_text;
+use crate::groups::answers::{accepted, cert_text};
 use crate::made::{Shape, each_drawn};
 use crate::plans::planned::first_of;
 use crate::rattle_std::alloc::Global;
@@ -50,9 +50,14 @@ fn a_search_for_a_cheaper_plan_goes_on_beside_them() {
     for problem in each_drawn(CROWDED, 0..6) {
         let Some(plan) = quick_plan(&problem) else { continue };
         let known = Known::of(&problem, plan);
-        let outcome = search_below(Global, &problem, 1300, known.cost, &mut Unwatched).expect("memory");
-        if let Outcome::Limit { bound, parts, .. } = outcome {
-            known.assert_shown(&problem, &Priced { bound: bound.min(known.cost), parts });
+        match search_below(Global, &problem, 1300, known.cost, &mut Unwatched).expect("memory") {
+            Outcome::Limit { bound, parts, .. } => {
+                known.assert_shown(&problem, &Priced { bound: bound.min(known.cost), parts });
+            }
+            outcome => {
+                let sum = accepted(&problem, outcome).sum();
+                assert!(sum.is_some_and(|sum| sum < known.cost), "{sum:?}, {problem:?}");
+            }
         }
     }
 }
